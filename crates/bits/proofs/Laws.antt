@@ -55,6 +55,11 @@ bits-be s h i (suc k) =
     let next : 8 * i + 8 * k ≡ 8 * (i + k) = omega arith in
     rw (more, split s (8 * i) (8 * k) 8, next, bits-be s h i k, byte-at s (i + k) (h (i + k)))
 
+-- a number of one byte
+pub be-one : (s : List ℕ) (i : ℕ) → beAt s i 1 ≡ getD s i 0
+unfolding beAt
+be-one s i = rw add-zero (omega arith)
+
 -- a step of a field that is read byte by byte: `done` bits are read, and the next n stand in one byte
 pub more-bits : (s : List ℕ) (p done n : ℕ) → (p + done) % 8 + n ≤ 8 → done + n ≤ 64 →
     (bitsAt s p done * 2 ^ n) % 2 ^ 64 + getD s ((p + done) / 8) 0 / 2 ^ (8 - (p + done) % 8 - n) % 2 ^ n ≡ bitsAt s p (done + n)
@@ -74,7 +79,7 @@ le-split s i a zero = rw add-zero (omega arith)
 le-split s i a (suc b) = rw (add-suc, add-assoc, pow-add 256 a b) (omega (arith, le-split s i a b))
 
 -- what a cursor took at p, where p is q: so the steps of a cursor are chained, each from the place that the one before gives
-pub taken : (s : List ℕ) (n : ℕ) {p q v next : ℕ} → (v ≡ bitsAt s p n) × (next ≡ p + n) → p ≡ q → (v ≡ bitsAt s q n) × (next ≡ q + n)
+pub taken : (s : List ℕ) (n : ℕ) {p q v next : ℕ} → (v ≡ bitsAt s p n) × (next ≡ p + n) × (v < 2 ^ n) → p ≡ q → (v ≡ bitsAt s q n) × (next ≡ q + n)
 taken s n e h = (e .0 ∙ ap (λ x. bitsAt s x n) h, e .1 ∙ ap (λ x. x + n) h)
 
 -- the words of a part of the bytes are words of the whole

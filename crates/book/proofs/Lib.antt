@@ -1,0 +1,5 @@
+pub mod Laws
+pub mod Maps
+pub mod Tables
+pub mod Walk
+mod Examples

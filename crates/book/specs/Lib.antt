@@ -1,0 +1,5 @@
+pub mod Maps
+pub mod Book
+pub mod Refusals
+pub mod Walk
+pub mod Steps

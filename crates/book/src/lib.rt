@@ -1,0 +1,547 @@
+// What bytes are a book: its header, its four tables and its keys, read where they stand.
+ghost use mathlib.Core.Path.{_≡_};
+ghost use Prim.Native.Nat.{_+_, _*_, _^_, _<_, _≤_};
+ghost use lib.ListN.{length};
+ghost use Rattle.book.specs.Maps.{lookup, lowerBound};
+ghost use Rattle.book.specs.Book.{
+  headerOf,
+  wordsTable,
+  gensTable,
+  allocTable,
+  entryAt,
+  wordsFrom,
+  gensFrom,
+  allocFrom,
+  dataType,
+  placesOf,
+  keyHead,
+};
+ghost use Rattle.book.specs.Refusals.{
+  badRest,
+  entryVerdict,
+  tableVerdict,
+  keyVerdict,
+  keysVerdict,
+  partsVerdict,
+  parse,
+  scanOf,
+};
+ghost use Rattle.book.specs.Walk.{firstAt, Rising, frontOf, maybeU8, maybeU32, allocEntryOf};
+ghost use Rattle.book.specs.Steps.{Readable, Near, keyReadOf};
+ghost use Rattle.search.specs.Bound.{LowerBound};
+use bits::Cursor;
+
+// The first 32 bytes, field by field. The mark `trees` says that the snapshot_trees btree is present.
+pub struct Header {
+    pub layout: u8,
+    pub trees: bool,
+    pub spare: u16,
+    pub version: u16,
+    pub first_bucket: u16,
+    pub keys: u16,
+    pub device: u64,
+    pub buckets: u64,
+    pub parents: u16,
+    pub subvolumes: u16,
+    pub gens: u16,
+    pub alloc: u16,
+}
+
+// Where the tables and the keys start, in bytes.
+pub struct Places {
+    pub parents: usize,
+    pub subvolumes: usize,
+    pub gens: usize,
+    pub alloc: usize,
+    pub keys: usize,
+}
+
+// A table's form: the bytes of an entry, the bits of its first field, and whether the rest is an alloc entry's.
+pub struct Table {
+    pub size: usize,
+    pub first: usize,
+    pub typed: bool,
+}
+
+// An entry of a table: its first field, and the number that the rest of its bits makes.
+pub struct Entry {
+    pub first: u64,
+    pub rest: u64,
+}
+
+// A key's head, with the start and the length of its value.
+pub struct KeyHead {
+    pub btree: u8,
+    pub key_type: u8,
+    pub len: usize,
+    pub spare: u8,
+    pub size: u32,
+    pub inode: u64,
+    pub offset: u64,
+    pub snapshot: u32,
+    pub start: usize,
+}
+
+// The first four fields of a key's head: what a rule passes over a key by.
+pub struct KeyFront {
+    pub btree: u8,
+    pub key_type: u8,
+    pub len: usize,
+    pub spare: u8,
+}
+
+// An alloc entry: a bucket, and its data type, if it has one.
+pub struct AllocEntry {
+    pub bucket: u64,
+    pub data_type: MaybeU8,
+}
+
+// Rust's Option<u8>.
+pub enum MaybeU8 {
+    Is(u8),
+    Absent,
+}
+
+// Rust's Option<u32>.
+pub enum MaybeU32 {
+    Is(u32),
+    Absent,
+}
+
+// What a check of a book, or of a part of it, gives.
+pub enum Verdict {
+    Passed,
+    // the refusal's number and its place
+    Refused(usize, usize),
+}
+
+// What stands where a key is due.
+pub enum KeyRead {
+    Key(KeyFront),
+    // the refusal's number and its place
+    Refused(usize, usize),
+}
+
+// What bytes are as a book.
+pub enum Scanned {
+    Accepted { header: Header, places: Places },
+    // the refusal's number and its place
+    Refused(usize, usize),
+}
+
+// The header of a book of 32 bytes or more.
+pub fn read_header(book: &[u8]) -> Header
+    requires { ⌜ 32 ≤ length (now book) ⌝ }
+    ensures { λ r. ⌜ r ≡ headerOf (now (book .entry)) ⌝ }
+{
+    let start = Cursor { at: 0 };
+    let t = start.take(book, 4);
+    let layout = t.value as u8;
+    let c = t.next;
+    let t = c.take(book, 1);
+    let trees = t.value == 1;
+    let c = t.next;
+    let t = c.take(book, 11);
+    let spare = t.value as u16;
+    let c = t.next;
+    let t = c.take(book, 16);
+    let version = t.value as u16;
+    let c = t.next;
+    let t = c.take(book, 16);
+    let first_bucket = t.value as u16;
+    let c = t.next;
+    let t = c.take(book, 16);
+    let keys = t.value as u16;
+    let c = t.next;
+    let device = c.take(book, 64);
+    let c = device.next;
+    let buckets = c.take(book, 64);
+    let c = buckets.next;
+    let t = c.take(book, 16);
+    let parents = t.value as u16;
+    let c = t.next;
+    let t = c.take(book, 16);
+    let subvolumes = t.value as u16;
+    let c = t.next;
+    let t = c.take(book, 16);
+    let gens = t.value as u16;
+    let c = t.next;
+    let t = c.take(book, 16);
+    let alloc = t.value as u16;
+    Header {
+        layout,
+        trees,
+        spare,
+        version,
+        first_bucket,
+        keys,
+        device: device.value,
+        buckets: buckets.value,
+        parents,
+        subvolumes,
+        gens,
+        alloc,
+    }
+}
+
+// Where the tables and the keys of a book with this header start.
+pub fn find_places(h: Header) -> Places
+    ensures places { λ r. ⌜ r ≡ placesOf h ⌝ }
+    ensures near { λ r. ⌜ Near r ⌝ }
+{
+    let subvolumes = 32 + 8 * (h.parents as usize);
+    let gens = subvolumes + 8 * (h.subvolumes as usize);
+    let alloc = gens + 9 * (h.gens as usize);
+    let keys = alloc + 10 * (h.alloc as usize);
+    Places {
+        parents: 32,
+        subvolumes,
+        gens,
+        alloc,
+        keys,
+    }
+}
+
+// The entry of a table at byte `at`.
+fn read_entry(book: &[u8], t: Table, at: usize) -> Entry
+    requires { ⌜ Readable t × (length (now book) ≤ 1048576) × (at + t .size ≤ length (now book)) ⌝ }
+    ensures { λ r. ⌜ r ≡ entryAt t (now (book .entry)) at ⌝ }
+{
+    let start = Cursor { at: 8 * at };
+    let first = start.take(book, t.first);
+    let c = first.next;
+    let rest = c.take(book, 8 * t.size - t.first);
+    Entry {
+        first: first.value,
+        rest: rest.value,
+    }
+}
+
+// Whether the rest of an entry is one that its table may not hold.
+fn bad_rest(typed: bool, rest: u64) -> bool
+    ensures { λ r. ⌜ r ≡ badRest typed rest ⌝ }
+{
+    typed & ((rest % 128 != 0) | ((rest / 32768 == 0) & (rest / 128 % 256 != 0)))
+}
+
+// What the entry at byte `at` gives, in a table that starts at byte `start`.
+fn entry_verdict(book: &[u8], t: Table, start: usize, at: usize) -> Verdict
+    requires { ⌜ Readable t × (length (now book) ≤ 1048576) × (start < 2 ^ 32) × (at < 2 ^ 32) ⌝ }
+    ensures { λ r. ⌜ r ≡ entryVerdict t (now (book .entry)) start at ⌝ }
+{
+    if book.len() < at + t.size {
+        return Verdict::Refused(4, at);
+    }
+    let e = read_entry(book, t, at);
+    if bad_rest(t.typed, e.rest) {
+        return Verdict::Refused(5, at);
+    }
+    if at < start + t.size {
+        return Verdict::Passed;
+    }
+    let previous = at - t.size;
+    let before = read_entry(book, t, previous);
+    if e.first <= before.first {
+        return Verdict::Refused(6, at);
+    }
+    Verdict::Passed
+}
+
+// The first refusal of the `count` entries of the table that starts at byte `start`.
+fn table_verdict(book: &[u8], t: Table, start: usize, count: u16) -> Verdict
+    requires { ⌜ Readable t × (length (now book) ≤ 1048576) × (start < 2 ^ 31) ⌝ }
+    ensures { λ r. ⌜ r ≡ tableVerdict t (now (book .entry)) start count start ⌝ }
+{
+    let mut left = count;
+    let mut at = start;
+    while 0 < left {
+        let v = entry_verdict(book, t, start, at);
+        let Verdict::Passed = v else {
+            return v;
+        };
+        at += t.size;
+        left -= 1;
+    }
+    Verdict::Passed
+}
+
+// The front of the key at byte `at`.
+pub fn key_front(book: &[u8], at: usize) -> KeyFront
+    requires { ⌜ (length (now book) ≤ 1048576) × (at + 4 ≤ length (now book)) ⌝ }
+    ensures { λ r. ⌜ r ≡ frontOf (keyHead (now (book .entry)) at) ⌝ }
+{
+    let start = Cursor { at: 8 * at };
+    let t = start.take(book, 8);
+    let btree = t.value as u8;
+    let c = t.next;
+    let t = c.take(book, 8);
+    let key_type = t.value as u8;
+    let c = t.next;
+    let t = c.take(book, 11);
+    let len = t.value as usize;
+    let c = t.next;
+    let t = c.take(book, 5);
+    let spare = t.value as u8;
+    KeyFront {
+        btree,
+        key_type,
+        len,
+        spare,
+    }
+}
+
+// The head of the key at byte `at`.
+pub fn key_head(book: &[u8], at: usize) -> KeyHead
+    requires { ⌜ (length (now book) ≤ 1048576) × (at + 28 ≤ length (now book)) ⌝ }
+    ensures { λ r. ⌜ r ≡ keyHead (now (book .entry)) at ⌝ }
+{
+    let front = key_front(book, at);
+    let start = Cursor { at: 8 * at + 32 };
+    let t = start.take(book, 32);
+    let size = t.value as u32;
+    let c = t.next;
+    let inode = c.take(book, 64);
+    let c = inode.next;
+    let offset = c.take(book, 64);
+    let c = offset.next;
+    let t = c.take(book, 32);
+    let snapshot = t.value as u32;
+    KeyHead {
+        btree: front.btree,
+        key_type: front.key_type,
+        len: front.len,
+        spare: front.spare,
+        size,
+        inode: inode.value,
+        offset: offset.value,
+        snapshot,
+        start: at + 28,
+    }
+}
+
+// What stands at byte `at`, where a key is due, in a book with this trees mark.
+fn read_key(book: &[u8], trees: bool, at: usize) -> KeyRead
+    requires { ⌜ (length (now book) ≤ 1048576) × (at < 2 ^ 32) ⌝ }
+    ensures { λ r. ⌜ r ≡ keyReadOf (keyVerdict trees (now (book .entry)) at) (frontOf (keyHead (now (book .entry)) at)) ⌝ }
+{
+    if book.len() < at + 28 {
+        return KeyRead::Refused(4, at);
+    }
+    let front = key_front(book, at);
+    if book.len() < at + 28 + front.len {
+        return KeyRead::Refused(4, at);
+    }
+    if front.spare != 0 {
+        return KeyRead::Refused(5, at);
+    }
+    if (front.btree == 15) & !trees {
+        return KeyRead::Refused(7, at);
+    }
+    KeyRead::Key(front)
+}
+
+// The first refusal of the `count` keys from byte `start` on, after which the book ends.
+fn keys_verdict(book: &[u8], trees: bool, count: u16, start: usize) -> Verdict
+    requires { ⌜ (length (now book) ≤ 1048576) × (start < 2 ^ 31) ⌝ }
+    ensures { λ r. ⌜ r ≡ keysVerdict trees (now (book .entry)) count start ⌝ }
+{
+    let mut left = count;
+    let mut at = start;
+    while 0 < left {
+        let k = read_key(book, trees, at);
+        match k {
+            KeyRead::Refused(number, place) => {
+                return Verdict::Refused(number, place);
+            }
+            KeyRead::Key(front) => {
+                at = at + 28 + front.len;
+            }
+        }
+        left -= 1;
+    }
+    if at < book.len() {
+        Verdict::Refused(8, at)
+    } else {
+        Verdict::Passed
+    }
+}
+
+// The first refusal of the four tables and the keys.
+fn parts_verdict(book: &[u8], h: Header, at: Places) -> Verdict
+    requires { ⌜ (length (now book) ≤ 1048576) × Near at ⌝ }
+    ensures { λ r. ⌜ r ≡ partsVerdict (now (book .entry)) h at ⌝ }
+{
+    let words = Table {
+        size: 8,
+        first: 32,
+        typed: false,
+    };
+    let gens = Table {
+        size: 9,
+        first: 64,
+        typed: false,
+    };
+    let alloc = Table {
+        size: 10,
+        first: 64,
+        typed: true,
+    };
+    let v = table_verdict(book, words, at.parents, h.parents);
+    let Verdict::Passed = v else {
+        return v;
+    };
+    let v = table_verdict(book, words, at.subvolumes, h.subvolumes);
+    let Verdict::Passed = v else {
+        return v;
+    };
+    let v = table_verdict(book, gens, at.gens, h.gens);
+    let Verdict::Passed = v else {
+        return v;
+    };
+    let v = table_verdict(book, alloc, at.alloc, h.alloc);
+    let Verdict::Passed = v else {
+        return v;
+    };
+    keys_verdict(book, h.trees, h.keys, at.keys)
+}
+
+// Whether the bytes are a book: the header and the places of an accepted one, or the refusal.
+pub fn scan(book: &[u8]) -> Scanned
+    ensures { λ r. ⌜ r ≡ scanOf (parse (now (book .entry))) ⌝ }
+{
+    if 1048576 < book.len() {
+        return Scanned::Refused(1, 0);
+    }
+    if book.len() < 32 {
+        return Scanned::Refused(2, 0);
+    }
+    let h = read_header(book);
+    if (h.layout != 1) | (h.spare != 0) {
+        return Scanned::Refused(3, 0);
+    }
+    let at = find_places(h);
+    let v = parts_verdict(book, h, at);
+    match v {
+        Verdict::Refused(number, place) => Scanned::Refused(number, place),
+        Verdict::Passed => Scanned::Accepted {
+            header: h,
+            places: at,
+        },
+    }
+}
+
+// How many of the `count` entries of two 32-bit words from byte `start` on, whose first words rise, have one below `x`.
+fn lower_bound32(book: &[u8], start: usize, count: usize, x: u32) -> usize
+    requires { ⌜ Rising wordsTable (now book) start count ⌝ }
+    ensures { λ r. ⌜ LowerBound (firstAt wordsTable (now (book .entry)) start) count x r ⌝ }
+{
+    let mut low = 0;
+    let mut high = count;
+    while low < high {
+        let mid = low + (high - low) / 2;
+        let at = start + mid * 8;
+        if bits::be32(book, at) < x {
+            low = mid + 1;
+        } else {
+            high = mid;
+        }
+    }
+    low
+}
+
+// The second word that a table of two 32-bit words has for `id`: a snapshot's parent, or a subvolume's snapshot.
+pub fn find_word(book: &[u8], start: usize, count: usize, id: u32) -> MaybeU32
+    requires { ⌜ Rising wordsTable (now book) start count ⌝ }
+    ensures { λ r. ⌜ r ≡ maybeU32 (lookup id (wordsFrom (now (book .entry)) count start)) ⌝ }
+{
+    let i = lower_bound32(book, start, count, id);
+    if i == count {
+        return MaybeU32::Absent;
+    }
+    let at = start + i * 8;
+    if bits::be32(book, at) == id {
+        return MaybeU32::Is(bits::be32(book, at + 4));
+    }
+    MaybeU32::Absent
+}
+
+// How many of the `count` entries of a table whose first field has 64 bits have one below `x`, where these rise.
+fn lower_bound64(book: &[u8], t: Table, start: usize, count: usize, x: u64) -> usize
+    requires { ⌜ (t .first ≡ 64) × (8 ≤ t .size) × Rising t (now book) start count ⌝ }
+    ensures { λ r. ⌜ LowerBound (firstAt t (now (book .entry)) start) count x r ⌝ }
+{
+    let mut low = 0;
+    let mut high = count;
+    while low < high {
+        let mid = low + (high - low) / 2;
+        let at = start + mid * t.size;
+        if bits::be64(book, at) < x {
+            low = mid + 1;
+        } else {
+            high = mid;
+        }
+    }
+    low
+}
+
+// The generation that a gens table has for a bucket.
+pub fn find_gen(book: &[u8], start: usize, count: usize, bucket: u64) -> MaybeU8
+    requires { ⌜ Rising gensTable (now book) start count ⌝ }
+    ensures { λ r. ⌜ r ≡ maybeU8 (lookup bucket (gensFrom (now (book .entry)) count start)) ⌝ }
+{
+    let gens = Table {
+        size: 9,
+        first: 64,
+        typed: false,
+    };
+    let i = lower_bound64(book, gens, start, count, bucket);
+    if i == count {
+        return MaybeU8::Absent;
+    }
+    let at = start + i * 9;
+    if bits::be64(book, at) == bucket {
+        return MaybeU8::Is(book[at + 8]);
+    }
+    MaybeU8::Absent
+}
+
+// How many entries of an alloc table stand before the first whose bucket is `bucket` or above.
+pub fn alloc_from(book: &[u8], start: usize, count: usize, bucket: u64) -> usize
+    requires { ⌜ Rising allocTable (now book) start count ⌝ }
+    ensures { λ r. ⌜ r ≡ lowerBound bucket (allocFrom (now (book .entry)) count start) ⌝ }
+{
+    let alloc = Table {
+        size: 10,
+        first: 64,
+        typed: true,
+    };
+    lower_bound64(book, alloc, start, count, bucket)
+}
+
+// The data type of an alloc entry, by the rest of its bits.
+fn data_type(rest: u64) -> MaybeU8
+    ensures { λ r. ⌜ r ≡ maybeU8 (dataType rest) ⌝ }
+{
+    if rest / 32768 == 1 {
+        return MaybeU8::Is((rest / 128 % 256) as u8);
+    }
+    MaybeU8::Absent
+}
+
+// The alloc entry at byte `at`.
+pub fn alloc_entry(book: &[u8], at: usize) -> AllocEntry
+    requires { ⌜ (length (now book) ≤ 1048576) × (at + 10 ≤ length (now book)) ⌝ }
+    ensures { λ r. ⌜ r ≡ allocEntryOf (entryAt allocTable (now (book .entry)) at) ⌝ }
+{
+    let alloc = Table {
+        size: 10,
+        first: 64,
+        typed: true,
+    };
+    let e = read_entry(book, alloc, at);
+    let data_type = data_type(e.rest);
+    AllocEntry {
+        bucket: e.first,
+        data_type,
+    }
+}

@@ -1,0 +1,75 @@
+-- The invariant of a binary search among the first n values of a function that does not fall, and its steps.
+use Prim.Native.Nat.{ℕ, zero, suc, _+_, _≤_, _<_, zero-le}
+use mathlib.Core.Path.{_≡_}
+use mathlib.Core.Logic.{_⊎_, inl, inr}
+use native.Mathlib.Decide.{decLe}
+use native.Mathlib.Nat.{lt-of-not-le, le-refl, le-trans, lt-trans, lt-of-le-of-lt, not-suc-le-zero, le-of-suc-le-suc, eq-or-lt-of-le}
+use native.Mathlib.Omega.{arith}
+use Rattle.search.specs.Bound.{LowerBound}
+
+-- one order or the other
+pub le-or-lt : (a b : ℕ) → (a ≤ b) ⊎ (b < a)
+le-or-lt a b = elim (decLe a b) [ yes h ↦ inl h | no h ↦ inr (lt-of-not-le h) ]
+
+-- x's place is from low to high: all before low are below x, and none from high on is
+pub record Bracket (f : ℕ → ℕ) (n x low high : ℕ) : Type 0 where
+  pub ordered : low ≤ high
+  pub inside : high ≤ n
+  pub below : (k : ℕ) → k < low → f k < x
+  pub above : (k : ℕ) → high ≤ k → k < n → x ≤ f k
+
+-- f does not fall among its first n values
+abbrev pub NotFalling : (ℕ → ℕ) → ℕ → Type 0
+NotFalling f n = (i j : ℕ) → i ≤ j → j < n → f i ≤ f j
+
+-- before the first turn
+pub bracket-all : (f : ℕ → ℕ) (n x : ℕ) → Bracket f n x 0 n
+bracket-all f n x = record {
+  ordered = zero-le;
+  inside = le-refl n;
+  below = λ k l. absurd (not-suc-le-zero l);
+  above = λ k l m. absurd (omega arith);
+}
+
+-- a turn at m: the value there is below x, or it is not
+module _ (f : ℕ → ℕ) (n x low high m : ℕ) (order : NotFalling f n) (b : Bracket f n x low high) (from : low ≤ m) (to : m < high) where
+  pub bracket-up : f m < x → Bracket f n x (m + 1) high
+  bracket-up less = let i = b .inside in record {
+    ordered = omega arith;
+    inside = i;
+    below = λ k l. lt-of-le-of-lt (order k m (omega arith) (omega arith)) less;
+    above = b .above;
+  }
+
+  pub bracket-down : x ≤ f m → Bracket f n x low m
+  bracket-down more = let i = b .inside in record {
+    ordered = from;
+    inside = omega arith;
+    below = b .below;
+    above = λ k l h. le-trans more (order m k l h);
+  }
+
+-- after the last turn
+pub bracket-closed : {f : ℕ → ℕ} {n x low high : ℕ} → Bracket f n x low high → high ≤ low → LowerBound f n x low
+bracket-closed b met = let i = b .inside in record {
+  inside = omega arith;
+  below = b .below;
+  above = λ k l h. b .above k (le-trans met l) h;
+}
+
+-- what rises from each place to the next rises from each place to every later one
+pub rises : (f : ℕ → ℕ) (n : ℕ) → ((i : ℕ) → suc i < n → f i < f (suc i)) → (i j : ℕ) → i < j → j < n → f i < f j
+rises f n up i zero l m = absurd (not-suc-le-zero l)
+rises f n up i (suc j) l m = step (eq-or-lt-of-le (le-of-suc-le-suc l)) (λ less. rises f n up i j less (omega arith))
+  where
+    step : (i ≡ j) ⊎ (i < j) → (i < j → f i < f j) → f i < f (suc j)
+    step (inl e) far = rw e (up j m)
+    step (inr less) far = lt-trans (far less) (up j m)
+
+-- what rises does not fall
+pub rising-order : (f : ℕ → ℕ) (n : ℕ) → ((i j : ℕ) → i < j → j < n → f i < f j) → NotFalling f n
+rising-order f n up i j l m = step (eq-or-lt-of-le l)
+  where
+    step : (i ≡ j) ⊎ (i < j) → f i ≤ f j
+    step (inl e) = rw e (le-refl (f j))
+    step (inr less) = let h = up i j less m in omega arith
