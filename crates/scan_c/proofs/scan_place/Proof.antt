@@ -1,0 +1,29 @@
+-- `scan_c::scan_place` meets its contract, by what `scan` answers.
+use mathlib.Core.Path.{sym, _∙_}
+use denote.Ref.{now}
+use Rattle.book.proofs.Walk.{opened, parse-accepted, parse-refused}
+use Rattle.scan_c.specs.Answer.{placeOf}
+use borrow.Author.Needs.{needs}
+use native.Mathlib.Omega.{arith}
+use Rattle.scan_c.proofs.scan_place.Statement.{statement}
+use Rattle.scan_c.proofs.scan_place.Tie as tie
+
+returns : tie.Need-returns
+unfolding placeOf
+returns c =
+    let s = now (c .before .before .before .before .args .book) in
+    rw (parse-accepted s (opened s (sym (c .before .before .scan .ensures) ∙ c .enum-told .given .1) .accepted))
+
+returns-2 : tie.Need-returns-2
+unfolding placeOf
+returns-2 c = rw (parse-refused (now (c .before .before .before .before .before .args .book)) (sym (c .before .before .before .scan .ensures) ∙ c .before .s .given .1))
+
+pub scan-place-spec : {M : Type 1} → statement M
+scan-place-spec =
+    tie.close
+    (tie.spec
+    (λ c κs. search needs)
+    (λ c. search needs)
+    (λ c. search needs)
+    returns
+    returns-2)
