@@ -1,11 +1,15 @@
--- Document 01's examples of refusals 2 to 8, and the listing's book, as one table.
-use Prim.Native.Nat.{ℕ}
+-- Document 01's examples of refusals, and what small books are read as.
+use Prim.Native.Nat.{ℕ, _<_}
+use mathlib.Core.Bool.{true}
+use mathlib.Core.Option.{none, some}
 use mathlib.Core.Path.{_≡_, refl}
 use mathlib.Core.List.{List, [], _∷_, _++_, map}
-use lib.ListN.{replicate}
+use lib.ListN.{length, replicate, length-replicate}
+use native.Mathlib.Omega.{arith}
+use borrow.Author.Tests.{lt-ltb}
 use Rattle.bits.specs.Bits.{bit, bitsAt}
 use Rattle.book.specs.declared.Verdict.the-variants.{Passed, Refused}
-use Rattle.book.specs.Book.{headerOf, placesOf, entryAt, keyHead, keyEnd}
+use Rattle.book.specs.Book.{headerOf, placesOf, entryAt, dataType, tableFrom, keyHead, keyEnd, keysFrom, bookOf, parentsOf}
 use Rattle.book.specs.Refusals.{refuse, _then_, badRest, entryVerdict, tableVerdict, keyVerdict, keysVerdict, partsVerdict, bookVerdict}
 
 zeros : ℕ → List ℕ
@@ -37,3 +41,30 @@ examples : map bookVerdict books ≡
     Passed ∷ Refused 2 0 ∷ Refused 3 0 ∷ Refused 4 32 ∷ Refused 5 32 ∷ Refused 6 40 ∷ Refused 7 32 ∷ Passed ∷ Refused 8 32 ∷ []
 unfolding zeros header listing books bit bitsAt refuse _then_ headerOf entryAt badRest entryVerdict tableVerdict keyHead keyEnd keyVerdict keysVerdict placesOf partsVerdict bookVerdict
 examples = refl
+
+-- the example of refusal 1, by the length alone
+past-the-limit : (s : List ℕ) → 1048576 < length s → bookVerdict s ≡ Refused 1 0
+unfolding refuse _then_ bookVerdict
+past-the-limit s long = simp (lt-ltb _ _ long)
+
+too-long : (n : ℕ) → 1048576 < n → bookVerdict (zeros n) ≡ Refused 1 0
+unfolding zeros
+too-long n long = past-the-limit (zeros n) (omega (arith, length-replicate {A = ℕ} n 0))
+
+-- a book with an entry in each table, two in alloc, and a key with a value of two bytes
+small : List ℕ
+small =
+    (0x18 ∷ 0 ∷ 4 ∷ 0x27 ∷ 0 ∷ 1 ∷ 0 ∷ 1 ∷ zeros 7) ++ (3 ∷ zeros 7) ++ (9 ∷ 0 ∷ 1 ∷ 0 ∷ 1 ∷ 0 ∷ 1 ∷ 0 ∷ 2 ∷ [])
+    ++ (0 ∷ 0 ∷ 0 ∷ 7 ∷ 0 ∷ 0 ∷ 0 ∷ 5 ∷ []) ++ (0 ∷ 0 ∷ 1 ∷ 0 ∷ 0 ∷ 0 ∷ 0 ∷ 7 ∷ []) ++ (zeros 7 ++ (6 ∷ 200 ∷ []))
+    ++ (zeros 7 ++ (6 ∷ 0x82 ∷ 0 ∷ [])) ++ (zeros 7 ++ (8 ∷ 0 ∷ 0 ∷ []))
+    ++ (9 ∷ 22 ∷ 0 ∷ 0x40 ∷ 0 ∷ 0 ∷ 1 ∷ 2 ∷ zeros 7) ++ (4 ∷ zeros 7) ++ (7 ∷ 0 ∷ 0 ∷ 0 ∷ 1 ∷ 0xab ∷ 0xcd ∷ [])
+
+what-it-holds :
+    (bookVerdict small ≡ Passed)
+    × (bookOf small .header .device ≡ 3) × (bookOf small .header .buckets ≡ 9) × (bookOf small .header .trees ≡ true)
+    × (parentsOf (bookOf small) ≡ (7, 5) ∷ []) × (bookOf small .subvolumes ≡ (256, 7) ∷ []) × (bookOf small .gens ≡ (6, 200) ∷ [])
+    × (bookOf small .alloc ≡ (6, some 4) ∷ (8, none) ∷ [])
+    × (bookOf small .keys ≡
+    record { btree = 9; keyType = 22; size = 258; inode = 4; offset = 7; snapshot = 1; value = 0xab ∷ 0xcd ∷ [] } ∷ [])
+unfolding zeros small bit bitsAt refuse _then_ headerOf entryAt badRest entryVerdict tableVerdict keyHead keyEnd keyVerdict keysVerdict placesOf partsVerdict bookVerdict dataType tableFrom keysFrom bookOf parentsOf
+what-it-holds = (refl, refl, refl, refl, refl, refl, refl, refl, refl)

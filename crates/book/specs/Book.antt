@@ -1,7 +1,7 @@
 -- What the bytes of a book say (document 01, "The entry"): header, tables and keys, packed most significant bit first.
 -- Which bytes are a book is said in Refusals. The records Header, Places, Table, Entry and KeyHead are those that src/lib.rt declares.
 use Prim.Native.Nat.{ℕ, zero, suc, _+_, _-_, _*_, _/_, _%_}
-use mathlib.Core.Bool.{true, false, cond}
+use mathlib.Core.Bool.{Bool, true, false, cond, _&&_}
 use mathlib.Core.List.{List, [], _∷_}
 use mathlib.Core.Option.{Option, none, some}
 use lib.ListN.{take, drop}
@@ -113,17 +113,25 @@ pub record Bkey : Type 0 where
   pub snapshot : ℕ
   pub value : List ℕ
 
--- the key with this head
-abbrev pub keyOf : List ℕ → KeyHead → Bkey
-keyOf s h = record {
+-- the key with this head and this value
+abbrev pub bkey : KeyHead → List ℕ → Bkey
+bkey h value = record {
   btree = h .btree;
   keyType = h .«key_type»;
   size = h .size;
   inode = h .inode;
   offset = h .offset;
   snapshot = h .snapshot;
-  value = take (h .len) (drop (h .start) s);
+  value = value;
 }
+
+-- a key of this btree and this type
+unfoldable pub is : ℕ → ℕ → Bkey → Bool
+is btree keyType k = eqb (k .btree) btree && eqb (k .keyType) keyType
+
+-- the key whose value stands in the bytes s
+abbrev pub keyOf : List ℕ → KeyHead → Bkey
+keyOf s h = bkey h (take (h .len) (drop (h .start) s))
 
 -- the n keys from byte p on
 unfoldable pub keysFrom : List ℕ → ℕ → ℕ → List Bkey

@@ -19,7 +19,10 @@ fn line(number: usize, place: usize) {
 fn tell(bytes: &[u8]) {
     let s = book::scan(bytes);
     match s {
-        Scanned::Accepted { header: _, places: _ } => line(0, 0),
+        Scanned::Accepted {
+            header: _,
+            places: _,
+        } => line(0, 0),
         Scanned::Refused(number, place) => line(number, place),
     }
 }

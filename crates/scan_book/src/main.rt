@@ -17,7 +17,10 @@ fn refused(number: usize, place: usize) {
 fn tell(bytes: &[u8]) {
     let s = book::scan(bytes);
     match s {
-        Scanned::Accepted { header: _, places: _ } => {
+        Scanned::Accepted {
+            header: _,
+            places: _,
+        } => {
             io::write_all(STDOUT_FILENO, b"accepted\n");
         }
         Scanned::Refused(number, place) => refused(number, place),

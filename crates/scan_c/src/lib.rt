@@ -11,7 +11,10 @@ pub extern "C" fn scan_number(book: &[u8]) -> u64
 {
     let s = book::scan(book);
     match s {
-        Scanned::Accepted { header: _, places: _ } => 0,
+        Scanned::Accepted {
+            header: _,
+            places: _,
+        } => 0,
         Scanned::Refused(number, _) => number as u64,
     }
 }
@@ -23,7 +26,10 @@ pub extern "C" fn scan_place(book: &[u8]) -> u64
 {
     let s = book::scan(book);
     match s {
-        Scanned::Accepted { header: _, places: _ } => 0,
+        Scanned::Accepted {
+            header: _,
+            places: _,
+        } => 0,
         Scanned::Refused(_, place) => place as u64,
     }
 }
