@@ -4,8 +4,7 @@
 #include <stdlib.h>
 #include <string.h>
 
-uint64_t scan_number(const uint8_t *book, size_t bytes);
-uint64_t scan_place(const uint8_t *book, size_t bytes);
+uint64_t scan_answer(const uint8_t *book, size_t bytes);
 
 #define LONGEST 1048576
 #define HEADER 32
@@ -23,7 +22,8 @@ static void put32(uint8_t *at, uint32_t value) {
 }
 
 static void tell(const char *what, const uint8_t *book, size_t bytes) {
-    printf("%s, %zu bytes: %u %u\n", what, bytes, (unsigned)scan_number(book, bytes), (unsigned)scan_place(book, bytes));
+    uint64_t answer = scan_answer(book, bytes);
+    printf("%s, %zu bytes: %u %u\n", what, bytes, (unsigned)(answer >> 48), (unsigned)answer);
 }
 
 /* A table of 65,535 entries of `size` bytes, whose count stands at byte `count_at` of the header: entry i has i in the two bytes from its

@@ -2,11 +2,15 @@
 use Prim.Native.Nat.{ℕ, zero, suc, _≤_, _<_, zero-le, suc-le-suc}
 use mathlib.Core.Path.{_≡_, refl, ap}
 use mathlib.Core.List.{List, [], _∷_}
-use mathlib.Core.Option.{none, some}
+use mathlib.Core.Option.{Option, none, some}
 use native.Mathlib.Nat.{not-suc-le-zero, le-of-suc-le-suc}
 use lib.ListN.{length, getD}
 use borrow.Author.Tests.{eq-eqb, ne-eqb, lt-ltb, le-ltb}
+use native.Mathlib.Omega.{arith}
+use Rattle.book.specs.declared.MaybeU8.the-variants as u8
+use Rattle.book.specs.declared.MaybeU32.the-variants as u32
 use Rattle.book.specs.Maps.{lookup, lowerBound}
+use Rattle.book.specs.Walk.{maybeU8, maybeU32}
 
 module _ {A : Type 0} (d : ℕ × A) where
   -- no pair has x
@@ -34,3 +38,24 @@ module _ {A : Type 0} (d : ℕ × A) where
   lower-bound-at (e ∷ m) x (suc r) i b a =
       rw (lt-ltb (e .0) x (b 0 (suc-le-suc zero-le)))
       (ap suc (lower-bound-at m x r (le-of-suc-le-suc i) (λ k l. b (suc k) (suc-le-suc l)) (λ l. a (suc-le-suc l))))
+
+-- what a lookup's answer says of the map
+pub word-is : (o : Option ℕ) {x : ℕ} → maybeU32 o ≡ u32.Is x → o ≡ some x
+unfolding maybeU32
+word-is none e = let z : _≡_ {A = ℕ} 0 1 = cc in absurd (omega arith)
+word-is (some y) e = cc
+
+pub word-absent : (o : Option ℕ) → maybeU32 o ≡ u32.Absent → o ≡ none
+unfolding maybeU32
+word-absent none e = refl
+word-absent (some y) e = let z : _≡_ {A = ℕ} 0 1 = cc in absurd (omega arith)
+
+pub byte-is : (o : Option ℕ) {x : ℕ} → maybeU8 o ≡ u8.Is x → o ≡ some x
+unfolding maybeU8
+byte-is none e = let z : _≡_ {A = ℕ} 0 1 = cc in absurd (omega arith)
+byte-is (some y) e = cc
+
+pub byte-absent : (o : Option ℕ) → maybeU8 o ≡ u8.Absent → o ≡ none
+unfolding maybeU8
+byte-absent none e = refl
+byte-absent (some y) e = let z : _≡_ {A = ℕ} 0 1 = cc in absurd (omega arith)

@@ -1,31 +1,10 @@
-// Scans the books that stand in the lines of standard input, in hexadecimal, and writes for each the refusal's number and place, or
-// `0 0` where it is accepted. A line that starts with `#` is a heading, and is written as it stands.
+// Scans the books that stand in the lines of standard input, in hexadecimal, and writes what each is. A line that starts with `#` is a
+// heading, and is written as it stands.
 ghost use Prim.Native.Nat.{_≤_, _<_};
 ghost use lib.ListN.{length};
 ghost use Rattle.io.specs.Counts.{Counts};
-use book::Scanned;
 use libc::STDIN_FILENO;
 use libc::STDOUT_FILENO;
-
-// Writes two numbers and the line's end.
-fn line(number: usize, place: usize) {
-    io::print_decimal(STDOUT_FILENO, number as u64);
-    io::write_all(STDOUT_FILENO, b" ");
-    io::print_decimal(STDOUT_FILENO, place as u64);
-    io::write_all(STDOUT_FILENO, b"\n");
-}
-
-// Writes what the bytes are as a book.
-fn tell(bytes: &[u8]) {
-    let s = book::scan(bytes);
-    match s {
-        Scanned::Accepted {
-            header: _,
-            places: _,
-        } => line(0, 0),
-        Scanned::Refused(number, place) => line(number, place),
-    }
-}
 
 // The value of a hexadecimal digit, and 0 for any other byte.
 fn digit(b: u8) -> u8
@@ -65,7 +44,7 @@ fn show(text: &[u8]) {
     }
     let mut space = io::buffer();
     let n = decode(text, &mut space);
-    tell(&space[..n]);
+    report::tell(&space[..n]);
 }
 
 // Where the line that starts at byte `from` ends.

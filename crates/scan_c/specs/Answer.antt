@@ -1,13 +1,8 @@
--- An outcome as two numbers.
-use Prim.Native.Nat.{ℕ}
+-- An outcome as one number.
+use Prim.Native.Nat.{ℕ, _+_, _*_, _%_, _^_}
 use Rattle.book.specs.Refusals.{Outcome}
 
--- the refusal's number, or 0
-unfoldable pub numberOf : Outcome → ℕ
-numberOf (Outcome.accepted b) = 0
-numberOf (Outcome.refused number place) = number
-
--- the refusal's place, or 0
-unfoldable pub placeOf : Outcome → ℕ
-placeOf (Outcome.accepted b) = 0
-placeOf (Outcome.refused number place) = place
+-- a refusal's number above its place of 48 bits; 0 for an accepted book
+unfoldable pub answerOf : Outcome → ℕ
+answerOf (Outcome.accepted b) = 0
+answerOf (Outcome.refused number place) = number % 256 * 2 ^ 48 + place % 2 ^ 48

@@ -1,13 +1,13 @@
-// `scan` for C, by which the tests hand over books of any length: a refusal's number and its place, each 0 for an accepted book.
+// `scan` for C, by which the tests hand over books of any length.
 ghost use mathlib.Core.Path.{_≡_};
 ghost use Rattle.book.specs.Refusals.{parse};
-ghost use Rattle.scan_c.specs.Answer.{numberOf, placeOf};
+ghost use Rattle.scan_c.specs.Answer.{answerOf};
 use book::Scanned;
 
-// The refusal's number, or 0.
+// A refusal's number and, in the low 48 bits, its place; 0 for an accepted book.
 #[no_mangle]
-pub extern "C" fn scan_number(book: &[u8]) -> u64
-    ensures { λ r. ⌜ r ≡ numberOf (parse (now (book .entry))) ⌝ }
+pub extern "C" fn scan_answer(book: &[u8]) -> u64
+    ensures { λ r. ⌜ r ≡ answerOf (parse (now (book .entry))) ⌝ }
 {
     let s = book::scan(book);
     match s {
@@ -15,21 +15,8 @@ pub extern "C" fn scan_number(book: &[u8]) -> u64
             header: _,
             places: _,
         } => 0,
-        Scanned::Refused(number, _) => number as u64,
-    }
-}
-
-// The refusal's place, or 0.
-#[no_mangle]
-pub extern "C" fn scan_place(book: &[u8]) -> u64
-    ensures { λ r. ⌜ r ≡ placeOf (parse (now (book .entry))) ⌝ }
-{
-    let s = book::scan(book);
-    match s {
-        Scanned::Accepted {
-            header: _,
-            places: _,
-        } => 0,
-        Scanned::Refused(_, place) => place as u64,
+        Scanned::Refused(number, place) => {
+            (number as u64) % 256 * 0x1_0000_0000_0000 + (place as u64) % 0x1_0000_0000_0000
+        }
     }
 }

@@ -1,8 +1,7 @@
 -- `refusals::line_end` meets its contract: `end` stays from `from` to the end of the text.
-use Prim.Native.Nat.{_-_, _/_, _≤_}
+use Prim.Native.Nat.{_-_, _≤_}
 use lib.ListN.{length}
 use borrow.Author.Needs.{needs}
-use native.Mathlib.Omega.{arith}
 use Rattle.refusals.proofs.line_end.Statement.{statement}
 use Rattle.refusals.proofs.line_end.Tie as tie
 

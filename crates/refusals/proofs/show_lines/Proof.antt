@@ -1,7 +1,6 @@
 -- `refusals::show_lines` ends: each turn goes on past a line.
-use Prim.Native.Nat.{_-_, _/_, _≤_}
+use Prim.Native.Nat.{_-_}
 use lib.ListN.{length}
-use borrow.Author.Needs.{needs}
 use native.Mathlib.Omega.{arith}
 use Rattle.refusals.proofs.show_lines.Statement.{statement}
 use Rattle.refusals.proofs.show_lines.Tie as tie
