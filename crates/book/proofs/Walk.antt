@@ -128,11 +128,10 @@ pub value-length : (s : List ℕ) (h : KeyHead) → h .start + h .len ≤ length
 value-length s h fits = simp (length-take, length-drop) (omega arith)
 
 -- the part of the book that is lent as a key's value
-pub value-part : (s : List ℕ) (p e : ℕ) → e ≡ keyEnd s p → take (e - (p + 28)) (drop (p + 28) s) ≡ keyOf s (keyHead s p) .value
-unfolding keyEnd keyHead
-value-part s p e h =
-    let len : e - (p + 28) ≡ keyHead s p .len = omega arith in
-    ap (λ (n : ℕ). take n (drop (p + 28) s)) len
+pub value-part : (s : List ℕ) (h : KeyHead) → take (h .start + h .len - h .start) (drop (h .start) s) ≡ keyOf s h .value
+value-part s h =
+    let len : h .start + h .len - h .start ≡ h .len = omega arith in
+    ap (λ (n : ℕ). take n (drop (h .start) s)) len
 
 -- a word of a key's value, read in the book
 pub value-word : (s : List ℕ) (h : KeyHead) (i k : ℕ) → i + k ≤ h .len → leAt (keyOf s h .value) i k ≡ leAt s (h .start + i) k

@@ -1,0 +1,15 @@
+-- `fields::accounting_junk` meets its contract by computing.
+use Rattle.fields.specs.Fields.{accountingJunk, accountingKind}
+use borrow.Author.Needs.{needs}
+use Rattle.fields.proofs.accounting_junk.Statement.{statement}
+use Rattle.fields.proofs.accounting_junk.Tie as tie
+
+returns : tie.Need-returns
+unfolding accountingJunk accountingKind
+returns c = search needs
+
+pub accounting-junk-spec : {M : Type 1} → statement M
+accounting-junk-spec =
+    tie.close
+    (tie.spec
+    returns)

@@ -1,0 +1,3 @@
+pub mod Device
+pub mod Fields
+pub mod Steps
