@@ -1,0 +1,4 @@
+pub mod Distance
+pub mod Steps
+pub mod Subvolumes
+pub mod Words

@@ -1,0 +1,279 @@
+// The rules on state words.
+ghost use mathlib.Core.Path.{_≡_};
+ghost use mathlib.Core.List.{_++_};
+ghost use mathlib.Core.Bool.{cond, not, _&&_, _||_};
+ghost use Prim.Native.Nat.{_+_, _*_, _^_, _<_, _≤_};
+ghost use lib.ListN.{length};
+ghost use lib.Dec.{eqb, leb};
+ghost use Rattle.bits.specs.Bits.{leAt};
+ghost use Rattle.findings.specs.Findings.{finding, when, only, Found, Added};
+ghost use Rattle.book.specs.Book.{bkey, is, bookOf};
+ghost use Rattle.book.specs.Walk.{Opened};
+ghost use Rattle.pairs.specs.Pairs.{pairsOf, Sorted};
+ghost use Rattle.states.specs.Distance.{distance, stateDistance};
+ghost use Rattle.states.specs.Steps.{wordOrZero, keyAt, AtKey, gather, claimPair, firsts, RunEnd};
+ghost use Rattle.states.specs.Subvolumes.{claims, claimFindings, snapshotClaims};
+ghost use Rattle.states.specs.Words.{
+  stateRequired,
+  snapshotState,
+  subvolStateUnset,
+  subvolumeWord,
+  subvolumeState,
+  checkStateWords,
+};
+use book::Header;
+use book::KeyFront;
+use book::KeyHead;
+use book::Places;
+use findings::emit_if;
+
+// A format version: six bits major above ten bits minor.
+pub struct Version(pub u16);
+
+// Version 1.39: from here on states must be set.
+const STATE_REQUIRED_FROM: u16 = 1063;
+
+// Where the state and pad words of values stand.
+const SUBVOL_STATE: usize = 40;
+
+const SUBVOL_PAD: usize = 44;
+
+const SNAP_STATE: usize = 56;
+
+// The state of a deleted subvolume.
+const SUBVOL_DELETED: u32 = 0x3c6b_2d4c;
+
+// The state words of subvolumes: live, unlinked, deleted; and of snapshots: live, will_delete, no_keys, deleted.
+const SUBVOL_STATES: [u32; 3] = [0x4ad5_447e, 0x2d35_8e8f, 0x3c6b_2d4c];
+
+const SNAP_STATES: [u32; 4] = [0x757c_47a2, 0x3316_a8d2, 0x372b_5a01, 0x7cd4_a225];
+
+// Whether states must be set at a version, which is compared as one number.
+fn state_required(version: Version) -> bool
+    ensures { λ r. ⌜ r ≡ stateRequired (version .0) ⌝ }
+{
+    STATE_REQUIRED_FROM <= version.0
+}
+
+// How many bits of two words differ.
+fn bits_apart(x: u32, y: u32) -> u32
+    ensures { λ r. ⌜ r ≡ distance x y ⌝ }
+{
+    u32::count_ones(x ^ y)
+}
+
+// The bits that a word is from the nearest of these states; 32 where there is none.
+pub fn state_distance(word: u32, states: &[u32]) -> u32
+    ensures { λ r. ⌜ r ≡ stateDistance word (now (states .entry)) ⌝ }
+{
+    let mut least: u32 = 32;
+    let mut i: usize = 0;
+    while i < states.len() {
+        let d = bits_apart(word, states[i]);
+        if d < least {
+            least = d;
+        }
+        i += 1;
+    }
+    least
+}
+
+// The word at byte `at` of a value, or 0 where the value ends before it does.
+fn word_or_zero(value: &[u8], at: usize) -> u32
+    requires { ⌜ at < 2 ^ 32 ⌝ }
+    ensures { λ r. ⌜ r ≡ wordOrZero (now (value .entry)) at ⌝ }
+{
+    if at + 4 <= value.len() {
+        return bits::le32(value, at);
+    }
+    0
+}
+
+// The findings of a snapshot's state word.
+fn check_snapshot_state(version: Version, value: &[u8], i: u64, out: &mut [u8], n: usize) -> usize
+    requires { ⌜ n < 2 ^ 62 ⌝ }
+    ensures added { λ r. ⌜ Added (now (out .entry)) n (snapshotState (version .0) i (now (value .entry))) r (now (out .exit)) ⌝ }
+    ensures few { λ r. ⌜ r ≤ n + 2 ⌝ }
+{
+    let word = word_or_zero(value, SNAP_STATE);
+    let d = state_distance(word, &SNAP_STATES);
+    let required = state_required(version);
+    let n = emit_if(out, n, (0 < d) & (d <= 2), 23, i, 0);
+    emit_if(out, n, (2 < d) & required, 24, i, 0)
+}
+
+// The finding of a subvolume's state that is not set, for versions where it must be.
+fn check_subvolume_state(version: Version, value: &[u8], i: u64, out: &mut [u8], n: usize) -> usize
+    requires { ⌜ n < 2 ^ 62 ⌝ }
+    ensures added { λ r. ⌜ Added (now (out .entry)) n (when (stateRequired (version .0) && subvolStateUnset (now (value .entry))) (finding 25 i 0)) r (now (out .exit)) ⌝ }
+    ensures few { λ r. ⌜ r ≤ n + 1 ⌝ }
+{
+    let word = word_or_zero(value, SUBVOL_STATE);
+    let required = state_required(version);
+    emit_if(
+        out,
+        n,
+        required & ((16 <= value.len()) & (word == 0)),
+        25,
+        i,
+        0,
+    )
+}
+
+// The findings of a subvolume's state word.
+fn check_subvolume_word(version: Version, word: u32, i: u64, out: &mut [u8], n: usize) -> usize
+    requires { ⌜ n < 2 ^ 62 ⌝ }
+    ensures added { λ r. ⌜ Added (now (out .entry)) n (subvolumeWord (version .0) i word) r (now (out .exit)) ⌝ }
+    ensures few { λ r. ⌜ r ≤ n + 3 ⌝ }
+{
+    if word != 0 {
+        let d = state_distance(word, &SUBVOL_STATES);
+        let required = state_required(version);
+        let n = emit_if(out, n, (0 < d) & (d <= 2), 26, i, 0);
+        let n = emit_if(out, n, 6 < d, 27, i, 0);
+        return emit_if(out, n, ((2 < d) & (d <= 6)) & required, 25, i, 0);
+    }
+    n
+}
+
+// The findings of a subvolume's state and pad words.
+fn check_subvolume(version: Version, value: &[u8], i: u64, out: &mut [u8], n: usize) -> usize
+    requires { ⌜ n < 2 ^ 61 ⌝ }
+    ensures added { λ r. ⌜ Added (now (out .entry)) n (subvolumeState (version .0) i (now (value .entry))) r (now (out .exit)) ⌝ }
+    ensures few { λ r. ⌜ r ≤ n + 5 ⌝ }
+{
+    let n = check_subvolume_state(version, value, i, out, n);
+    let word = word_or_zero(value, SUBVOL_STATE);
+    let n = check_subvolume_word(version, word, i, out, n);
+    let pad = word_or_zero(value, SUBVOL_PAD);
+    emit_if(out, n, pad != 0, 28, i, 0)
+}
+
+// The findings of the state and pad words of the key number i: of a snapshot's state, and of a subvolume's state and pad.
+pub fn check_state_words(
+    version: Version,
+    h: KeyHead,
+    value: &[u8],
+    i: u64,
+    out: &mut [u8],
+) -> usize
+    ensures found { λ r. ⌜ Found (now (out .entry)) (checkStateWords (version .0) i (bkey h (now (value .entry)))) r (now (out .exit)) ⌝ }
+    ensures few { λ r. ⌜ r ≤ 5 ⌝ }
+{
+    if ((h.btree == 9) & (h.key_type == 22)) & (24 <= value.len()) {
+        return check_snapshot_state(version, value, i, out, 0);
+    }
+    if (h.btree == 8) & (h.key_type == 21) {
+        return check_subvolume(version, value, i, out, 0);
+    }
+    0
+}
+
+// The word at byte i of the value of the key at byte p, whose front is f.
+fn key_word(book: &[u8], p: usize, f: KeyFront, i: usize) -> u32
+    requires { ⌜ AtKey (now book) p f × (i + 4 ≤ f .len) ⌝ }
+    ensures { λ r. ⌜ r ≡ leAt (keyAt (now (book .entry)) p .value) i 4 ⌝ }
+{
+    bits::le32(book, p + 28 + i)
+}
+
+// Whether the key at byte p is a subvolume that claims a snapshot.
+fn claims_snapshot(book: &[u8], p: usize, f: KeyFront) -> bool
+    requires { ⌜ AtKey (now book) p f ⌝ }
+    ensures { λ r. ⌜ r ≡ claims (keyAt (now (book .entry)) p) ⌝ }
+{
+    if ((f.btree == 8) & (f.key_type == 21)) & (8 <= f.len) {
+        if f.len < 44 {
+            return true;
+        }
+        let word = key_word(book, p, f, SUBVOL_STATE);
+        return !(bits_apart(word, SUBVOL_DELETED) <= 2);
+    }
+    false
+}
+
+// Puts the pair that the key at byte p gives behind the first n, and returns their number with it.
+fn put_claim(book: &[u8], p: usize, f: KeyFront, work: &mut [u64], n: usize) -> usize
+    requires { ⌜ AtKey (now book) p f × (2 * n + 2 ≤ length (now work)) ⌝ }
+    ensures put { λ r. ⌜ pairsOf (now (work .exit)) r ≡ pairsOf (now (work .entry)) n ++ claimPair p (keyAt (now (book .entry)) p) ⌝ }
+    ensures few { λ r. ⌜ r ≤ n + 1 ⌝ }
+{
+    if claims_snapshot(book, p, f) {
+        let snapshot = key_word(book, p, f, 4);
+        pairs::put_pair(work, n, snapshot as u64, 0);
+        return n + 1;
+    }
+    n
+}
+
+// Puts a pair for each claimant, in key order, and returns their number.
+fn put_claims(book: &[u8], h: Header, at: Places, work: &mut [u64]) -> usize
+    requires { ⌜ Opened (now book) h at × (2 * h .keys ≤ length (now work)) ⌝ }
+    ensures put { λ r. ⌜ pairsOf (now (work .exit)) r ≡ gather claimPair (now (book .entry)) (h .keys) (at .keys) ⌝ }
+    ensures few { λ r. ⌜ r ≤ h .keys ⌝ }
+{
+    let mut left = h.keys;
+    let mut p = at.keys;
+    let mut n: usize = 0;
+    while 0 < left {
+        let f = book::key_front(book, p);
+        n = put_claim(book, p, f, work, n);
+        p = p + 28 + f.len;
+        left -= 1;
+    }
+    n
+}
+
+// The first place past i, of the first n pairs, whose first word is not that of pair i.
+fn run_end(w: &[u64], n: usize, i: usize) -> usize
+    requires { ⌜ (2 * n ≤ length (now w)) × (i < n) ⌝ }
+    ensures { λ r. ⌜ RunEnd (now (w .entry)) n i r ⌝ }
+{
+    let p = 2 * i;
+    let id = w[p];
+    let mut e = i + 1;
+    while e < n {
+        let q = 2 * e;
+        if w[q] != id {
+            return e;
+        }
+        e += 1;
+    }
+    e
+}
+
+// The findings of the first n pairs, which are sorted: one for each first word that stands more than once.
+fn show_claims(w: &[u64], n: usize, out: &mut [u8]) -> usize
+    requires { ⌜ (2 * n ≤ length (now w)) × (n < 2 ^ 32) × Sorted (pairsOf (now w) n) ⌝ }
+    ensures found { λ r. ⌜ Found (now (out .entry)) (claimFindings (firsts (now (w .entry)) n)) r (now (out .exit)) ⌝ }
+    ensures few { λ r. ⌜ r ≤ n ⌝ }
+{
+    let mut found: usize = 0;
+    let mut i: usize = 0;
+    while i < n {
+        let e = run_end(w, n, i);
+        let p = 2 * i;
+        let id = w[p];
+        let size = e - i;
+        found = emit_if(out, found, 1 < size, 32, id, size as u64);
+        i = e;
+    }
+    found
+}
+
+// The findings of snapshots that more than one subvolume claims.
+pub fn snapshot_claims(
+    book: &[u8],
+    h: Header,
+    at: Places,
+    out: &mut [u8],
+    work: &mut [u64],
+) -> usize
+    requires { ⌜ Opened (now book) h at × (2 * h .keys ≤ length (now work)) ⌝ }
+    ensures found { λ r. ⌜ Found (now (out .entry)) (snapshotClaims (bookOf (now (book .entry)))) r (now (out .exit)) ⌝ }
+    ensures few { λ r. ⌜ r ≤ h .keys ⌝ }
+{
+    let n = put_claims(book, h, at, work);
+    pairs::sort_pairs(work, n);
+    show_claims(work, n, out)
+}
