@@ -5,8 +5,7 @@ use Prim.Native.Nat.{ℕ}
 use lib.ListN.{replicate}
 use Rattle.bits.specs.Bits.{leAt}
 use Rattle.findings.specs.Findings.{finding, when, only, bytesOf}
-use Rattle.book.specs.Book.{Bkey}
-use Rattle.book.specs.Book.{is}
+use Rattle.book.specs.Book.{Bkey, is}
 use Rattle.fields.specs.Fields.{hasRow, sizeZero, snapshotZero, minimumValue, accountingPositionBytes, accountingKind, replicasEnd, accountingFields, someNonzero, someNotRising, replicasEntryRefused, countersBad, checkAccountingKey, backpointersStart, allocV4Bytes, checkAllocV4Value, accountingJunk, foreignType, checkPosition, checkKeyFields}
 
 zeros : ℕ → List ℕ

@@ -7,14 +7,13 @@ use native.Mathlib.Numerals.{add-one}
 use native.Mathlib.Omega.{arith}
 use lib.ListN.{length, getD, take, drop, length-drop, drop-of-length-le}
 use lib.Seq.{drop-cons, take-all}
-use lib.Dec.{eqb, leb}
+use lib.Dec.{T, eqb, leb, ltb, lit<}
 use borrow.Author.Tests.{eqb-true}
 use Rattle.bits.specs.Bits.{leAt}
 use Rattle.findings.specs.Findings.{finding, when, only}
-use Rattle.book.specs.Book.{Bkey, bkey}
+use Rattle.book.specs.Book.{Bkey, bkey, is}
 use Rattle.book.specs.declared.KeyHead.{KeyHead}
 use Rattle.fields.specs.Device.{elsewhere, checkKeyDevice}
-use Rattle.book.specs.Book.{is}
 use Rattle.fields.specs.Fields.{hasRow, accountingPositionBytes, accountingKind, replicasEntryRefused, countersBad, someNonzero, someNotRising, checkAccountingKey, checkInodeV3Word, checkSnapshotPad, checkAllocV4Value, checkPosition, checkKeyFields}
 use Rattle.fields.specs.Steps.{pairOf, sizeBad, snapshotBad, checkHead, checkValue, junkAtEnd, kindFound}
 
@@ -112,11 +111,15 @@ unfolding kindFound when
 found-if i kind true h = rw h
 found-if i kind false h = refl
 
--- a key of this btree and this type is judged by this test
-pub position-is : (i : ℕ) (k : Bkey) (b t kind : ℕ) (test : Bool) {tested : Bool} {r : ℕ} → k .btree ≡ b → k .keyType ≡ t → eqb kind 0 ≡ false
-    → checkPosition i (typed k b t) ≡ when test (finding kind i 0) ++ [] → tested ≡ test → r ≡ cond tested kind 0 → checkPosition i k ≡ kindFound i r
-position-is i k b t kind test e f h p same got =
-    ap₂ (λ (b t : ℕ). checkPosition i (typed k b t)) e f ∙ p ∙ found-if i kind test h
+-- a key whose pair is this one is judged by this test
+pub position-is : (i : ℕ) (k : Bkey) (b t kind : ℕ) (test : Bool) {p r : ℕ} {tested : Bool} → p ≡ pairOf (k .btree) (k .keyType) → p ≡ pairOf b t
+    → k .keyType < 256 → T (ltb t 256) → eqb kind 0 ≡ false → checkPosition i (typed k b t) ≡ when test (finding kind i 0) ++ [] → tested ≡ test
+    → r ≡ cond tested kind 0 → checkPosition i k ≡ kindFound i r
+position-is i k b t kind test p e small low h found same got =
+    let less : t < 256 = lit< low in
+    let btree : k .btree ≡ b = omega arith in
+    let type : k .keyType ≡ t = omega arith in
+    ap₂ (λ (b t : ℕ). checkPosition i (typed k b t)) btree type ∙ found ∙ found-if i kind test h
     ∙ ap (kindFound i) (sym (got ∙ ap (λ (x : Bool). cond x kind 0) same))
 
 -- what the functions that `check_accounting_key` calls found

@@ -147,7 +147,7 @@ fn snapshot_bad(h: KeyHead) -> bool
     has_row(&SNAPSHOT_ZERO, h.btree, h.key_type)
 }
 
-// A key's btree and type as one number.
+// A key's btree and type as one number: the btree is the high byte, the type the low one.
 fn pair(h: KeyHead) -> u32
     ensures { λ r. ⌜ r ≡ pairOf (h .btree) (h .«key_type») ⌝ }
 {
@@ -167,7 +167,7 @@ fn minimum_value(h: KeyHead) -> usize
     }
 }
 
-// Kinds 3 to 5.
+// Kinds 3 to 5: the size, the snapshot and the length of the value.
 fn check_head(h: KeyHead, value: &[u8], i: u64, out: &mut [u8], n: usize) -> usize
     requires { ⌜ n < 2 ^ 62 ⌝ }
     ensures added { λ r. ⌜ Added (now (out .entry)) n (checkHead i (bkey h (now (value .entry)))) r (now (out .exit)) ⌝ }

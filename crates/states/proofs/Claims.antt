@@ -1,12 +1,12 @@
 -- What the code computes of a claimant is what the rule asks of it.
 use Prim.Native.Nat.{ℕ, _+_, _≤_, _<_}
-use mathlib.Core.Path.{_≡_, refl, sym}
-use mathlib.Core.Bool.{Bool, true, false, true≢false, not, _&&_}
+use mathlib.Core.Path.{_≡_, refl}
+use mathlib.Core.Bool.{Bool, true, false, not, _&&_}
 use mathlib.Core.List.{List, [], _∷_}
 use native.Mathlib.Omega.{arith}
 use lib.ListN.{length}
 use lib.Dec.{eqb, leb}
-use borrow.Author.Tests.{le-leb, lt-leb, leb-true}
+use borrow.Author.Tests.{le-leb, lt-leb}
 use Rattle.bits.specs.Bits.{leAt}
 use Rattle.pairs.specs.Pairs.{pair}
 use Rattle.book.specs.declared.KeyFront.{KeyFront}
@@ -14,42 +14,33 @@ use Rattle.book.specs.Book.{is}
 use Rattle.states.specs.Distance.{distance, subvolDeleted}
 use Rattle.states.specs.Subvolumes.{subvolState, claims}
 use Rattle.states.specs.Steps.{keyAt, AtKey, claimPair}
-use Rattle.states.proofs.Gather.{at-is, at-length}
+use Rattle.states.proofs.Gather.{at-length, at-long, long-enough}
 
-second-true : (a b c : Bool) → (a && b) && c ≡ true → b ≡ true
-second-true true true c e = refl
-second-true true false c e = e
-second-true false b c e = absurd (true≢false (sym e))
+pub first-true : (a b : Bool) → a && b ≡ true → a ≡ true
+first-true true b e = refl
+first-true false b e = e
 
 module _ {s : List ℕ} {p : ℕ} {f : KeyFront} (k : AtKey s p f) where
-  -- a subvolume of 8 value bytes or more, by its front
-  long-subvolume : {b : Bool} → (eqb (f .btree) 8 && eqb (f .«key_type») 21) && leb 8 (f .len) ≡ b → is 8 21 (keyAt s p) && leb 8 (length (keyAt s p .value)) ≡ b
-  long-subvolume e = rw (← at-is k 8 21, ← at-length k) e
-
   pub claims-short : (eqb (f .btree) 8 && eqb (f .«key_type») 21) && leb 8 (f .len) ≡ true → f .len < 44 → true ≡ claims (keyAt s p)
   unfolding claims
-  claims-short e h = rw (long-subvolume e, lt-leb 44 (length (keyAt s p .value)) (omega (arith, at-length k)))
+  claims-short e h = rw (at-long k 8 21 8 e, lt-leb 44 (length (keyAt s p .value)) (omega (arith, at-length k)))
 
   pub claims-long : (eqb (f .btree) 8 && eqb (f .«key_type») 21) && leb 8 (f .len) ≡ true → 44 ≤ f .len → {w d : ℕ} → w ≡ leAt (keyAt s p .value) 40 4
       → d ≡ distance w subvolDeleted → not (leb d 2) ≡ claims (keyAt s p)
   unfolding claims subvolState
-  claims-long e h w d = rw (long-subvolume e, le-leb 44 (length (keyAt s p .value)) (omega (arith, at-length k)), d, w)
+  claims-long e h w d = rw (at-long k 8 21 8 e, le-leb 44 (length (keyAt s p .value)) (omega (arith, at-length k)), d, w)
 
   pub claims-none : (eqb (f .btree) 8 && eqb (f .«key_type») 21) && leb 8 (f .len) ≡ false → false ≡ claims (keyAt s p)
   unfolding claims
-  claims-none e = rw (long-subvolume e)
+  claims-none e = rw (at-long k 8 21 8 e)
 
   -- a claimant has the word that it claims by
   pub claims-word : claims (keyAt s p) ≡ true → 4 + 4 ≤ f .len
   unfolding claims
   claims-word e =
       let key = keyAt s p in
-      omega (
-        arith,
-        at-length k,
-        leb-true 8 (length (key .value))
-            (second-true (is 8 21 key) (leb 8 (length (key .value))) (not (leb 44 (length (key .value)) && leb (distance (subvolState key) subvolDeleted) 2)) e),
-      )
+      let test = first-true (is 8 21 key && leb 8 (length (key .value))) (not (leb 44 (length (key .value)) && leb (distance (subvolState key) subvolDeleted) 2)) e in
+      omega (arith, at-length k, long-enough (is 8 21 key) 8 (length (key .value)) test)
 
 -- the pair that a key gives
 pub claim-yes : (s : List ℕ) (p : ℕ) {v : ℕ} → claims (keyAt s p) ≡ true → v ≡ leAt (keyAt s p .value) 4 4 → pair v 0 ∷ [] ≡ claimPair p (keyAt s p)

@@ -1,12 +1,15 @@
 -- A walk over the keys of a book that puts pairs: its invariant, and the laws by which it begins, turns and ends.
 use Prim.Native.Nat.{ℕ, zero, suc, _+_, _-_, _≤_, _<_}
 use mathlib.Core.Path.{_≡_, refl, sym, ap, _∙_}
-use mathlib.Core.Bool.{Bool, true, false, cond, _&&_}
+use mathlib.Core.Bool.{Bool, true, false, true≢false, cond, _&&_}
 use mathlib.Core.List.{List, [], _∷_, _++_, map, append-assoc, append-nil}
 use native.Mathlib.Omega.{arith}
 use lib.ListN.{length}
-use lib.Dec.{eqb}
+use lib.Dec.{eqb, leb}
+use borrow.Author.Tests.{leb-true}
 use Rattle.bits.specs.Bits.{leAt}
+use Rattle.findings.specs.Findings.{Finding, each}
+use Rattle.findings.proofs.Walk.{each-next}
 use Rattle.pairs.specs.Pairs.{pair, pairsOf}
 use Rattle.book.specs.declared.KeyFront.{KeyFront}
 use Rattle.book.specs.Book.{Bkey, is, keyHead, keyEnd, keysFrom}
@@ -16,6 +19,11 @@ use Rattle.states.specs.Subvolumes.{claims, claimed}
 use Rattle.states.specs.Steps.{keyAt, AtKey, gather, claimPair}
 
 -- ---- the key at hand
+
+-- a length that was tested
+pub long-enough : (a : Bool) (m n : ℕ) → a && leb m n ≡ true → m ≤ n
+long-enough true m n e = leb-true m n e
+long-enough false m n e = absurd (true≢false (sym e))
 
 -- it is at hand where a key is left and its front is read
 pub at-key : {s : List ℕ} {n p : ℕ} {f : KeyFront} → length s ≤ 1048576 → 0 < n → KeysFit s n p → f ≡ frontOf (keyHead s p) → AtKey s p f
@@ -27,14 +35,21 @@ module _ {s : List ℕ} {p : ℕ} {f : KeyFront} (k : AtKey s p f) where
   unfolding is
   at-is b t = rw (k .front)
 
-  -- where it ends
-  pub at-end : p + 28 + f .len ≡ keyEnd s p
-  at-end = front-end s p (k .front)
-
   -- the length of its value
   pub at-length : f .len ≡ length (keyAt s p .value)
   unfolding keyEnd
   at-length = ap (λ (f : KeyFront). f .len) (k .front) ∙ sym (value-length s (keyHead s p) (k .inside))
+
+  -- its btree, its type, and a least length of its value
+  pub at-long : (b t m : ℕ) {x : Bool} → (eqb (f .btree) b && eqb (f .«key_type») t) && leb m (f .len) ≡ x → is b t (keyAt s p) && leb m (length (keyAt s p .value)) ≡ x
+  at-long b t m e = rw (← at-is b t, ← at-length) e
+
+  pub at-least : (b t m : ℕ) → (eqb (f .btree) b && eqb (f .«key_type») t) && leb m (f .len) ≡ true → m ≤ f .len
+  at-least b t m e = long-enough (eqb (f .btree) b && eqb (f .«key_type») t) m (f .len) e
+
+  -- where it ends
+  pub at-end : p + 28 + f .len ≡ keyEnd s p
+  at-end = front-end s p (k .front)
 
   -- a word of it
   pub at-word : (i n : ℕ) → i + n ≤ f .len → leAt s (p + 28 + i) n ≡ leAt (keyAt s p .value) i n
@@ -84,3 +99,9 @@ pub claims-paired : (s : List ℕ) (n p : ℕ) → gather claimPair s n p ≡ ma
 unfolding gather claimPair claimed keysFrom
 claims-paired s zero p = refl
 claims-paired s (suc n) p = paired-by (claims (keyAt s p)) (leAt (keyAt s p .value) 4 4) (claimed (keysFrom s n (keyEnd s p))) (gather claimPair s n (keyEnd s p)) (claims-paired s n (keyEnd s p))
+
+-- ---- a rule key after key
+
+pub key-next : (of : Bkey → List Finding) (s : List ℕ) (n p : ℕ) {q : ℕ} → 0 < n → KeysFit s n p → q ≡ keyEnd s p
+    → each (λ _ k. of k) 0 (keysFrom s n p) ≡ of (keyAt s p) ++ each (λ _ k. of k) 0 (keysFrom s (n - 1) q)
+key-next of s n p h fit e = rw e (each-next (λ _ k. of k) (λ i k. refl) (step s n p h fit .keys))

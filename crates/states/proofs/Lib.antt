@@ -4,4 +4,6 @@ mod Claims
 mod Counts
 mod Examples
 mod Gather
+mod Groups
+mod States
 mod Words

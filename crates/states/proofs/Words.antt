@@ -12,6 +12,7 @@ use Rattle.findings.specs.Findings.{finding, when, only}
 use Rattle.book.specs.Book.{Bkey, is}
 use Rattle.states.specs.Distance.{stateDistance, snapStates, subvolStates}
 use Rattle.states.specs.Steps.{wordOrZero}
+use Rattle.states.proofs.Claims.{first-true}
 use Rattle.states.specs.Words.{stateRequired, snapStateWord, snapshotState, subvolStateUnset, subvolumeWord, subvolumeState, checkStateWords}
 
 -- a snapshot's findings, from its word, the distance and the version's test
@@ -64,10 +65,6 @@ subvolume-findings version i value w p =
     rw (w, p, word-by version i (leb 44 (length value)) (leAt value 40 4), pad-by (leb 48 (length value)) (leAt value 44 4))
 
 -- a key is a snapshot or a subvolume or neither
-first-true : (a b : Bool) → a && b ≡ true → a ≡ true
-first-true true b e = refl
-first-true false b e = e
-
 snapshot-only : (k : Bkey) → is 9 22 k ≡ true → is 8 21 k ≡ false
 unfolding is
 snapshot-only k e =

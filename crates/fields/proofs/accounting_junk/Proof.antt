@@ -1,12 +1,12 @@
 -- `fields::accounting_junk` meets its contract by computing.
+use mathlib.Core.Path.{refl}
 use Rattle.fields.specs.Fields.{accountingJunk, accountingKind}
-use borrow.Author.Needs.{needs}
 use Rattle.fields.proofs.accounting_junk.Statement.{statement}
 use Rattle.fields.proofs.accounting_junk.Tie as tie
 
 returns : tie.Need-returns
 unfolding accountingJunk accountingKind
-returns c = search needs
+returns c = refl
 
 pub accounting-junk-spec : {M : Type 1} → statement M
 accounting-junk-spec =

@@ -1,4 +1,5 @@
 -- `fields::accounting_position_bytes` meets its contract by computing.
+use mathlib.Core.Path.{refl}
 use Rattle.findings.specs.Findings.{bytesOf}
 use Rattle.fields.specs.Fields.{accountingPositionBytes}
 use borrow.Author.Needs.{needs}
@@ -7,7 +8,7 @@ use Rattle.fields.proofs.accounting_position_bytes.Tie as tie
 
 returns : tie.Need-returns
 unfolding accountingPositionBytes bytesOf
-returns c = search needs
+returns c = refl
 
 pub accounting-position-bytes-spec : {M : Type 1} → statement M
 accounting-position-bytes-spec =

@@ -1,12 +1,12 @@
 -- `fields::bad_id` meets its contract by computing.
+use mathlib.Core.Path.{refl}
 use Rattle.fields.specs.Fields.{badId}
-use borrow.Author.Needs.{needs}
 use Rattle.fields.proofs.bad_id.Statement.{statement}
 use Rattle.fields.proofs.bad_id.Tie as tie
 
 returns : tie.Need-returns
 unfolding badId
-returns c = search needs
+returns c = refl
 
 pub bad-id-spec : {M : Type 1} → statement M
 bad-id-spec =

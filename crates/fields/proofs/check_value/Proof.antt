@@ -1,5 +1,5 @@
 -- `fields::check_value` meets its contract: a pair is of one btree and one type.
-use mathlib.Core.Path.{_≡_, refl, _∙_}
+use mathlib.Core.Path.{_≡_, _∙_, refl}
 use Rattle.findings.specs.Findings.{only}
 use Rattle.findings.proofs.Laws.{added-as, added-nil}
 use Rattle.book.specs.Book.{is}

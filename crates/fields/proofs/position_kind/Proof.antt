@@ -1,10 +1,9 @@
 -- `fields::position_kind` meets its contract: a pair is of one btree and one type.
-use mathlib.Core.Path.{_≡_, refl, _∙_}
+use mathlib.Core.Path.{refl, _∙_}
 use mathlib.Core.Bool.{true, not}
 use lib.Dec.{eqb}
 use Rattle.findings.specs.Findings.{when}
-use Rattle.book.specs.Book.{Bkey, bkey}
-use Rattle.book.specs.Book.{is}
+use Rattle.book.specs.Book.{bkey, is}
 use Rattle.fields.specs.Fields.{foreignType, badId, accountingJunk, accountingKind, checkPosition}
 use Rattle.fields.specs.Steps.{kindFound}
 use Rattle.fields.proofs.Laws.{pair-not, position-is}
@@ -15,138 +14,93 @@ use Rattle.fields.proofs.position_kind.Tie as tie
 
 returns : tie.Need-returns
 unfolding checkPosition is foreignType when badId accountingJunk accountingKind
-returns c =
-    let h = c .before .before .before .before .before .args .h in
-    let k : Bkey = bkey h (c .before .before .before .before .before .args .value .now) in
-    let e : h .btree ≡ 1 = omega arith in
-    let f : h .«key_type» ≡ 29 = omega arith in
-    λ i. position-is i k 1 29 13 (not (eqb (h .inode) 0)) e f refl refl refl (c .kind-if .ensures)
+returns c i =
+    let start = c .before .before .before .before .before in
+    position-is i (bkey (start .args .h) (start .args .value .now)) 1 29 13 (not (eqb (start .args .h .inode) 0)) (c .before .before .before .pair .ensures) (c .before .before .match .keys1) (omega arith) tt refl refl refl (c .kind-if .ensures)
 
 returns-2 : tie.Need-returns-2
 unfolding checkPosition is foreignType when badId accountingJunk accountingKind
-returns-2 c =
-    let h = c .before .before .before .before .before .args .h in
-    let k : Bkey = bkey h (c .before .before .before .before .before .args .value .now) in
-    let e : h .btree ≡ 8 = omega arith in
-    let f : h .«key_type» ≡ 21 = omega arith in
-    λ i. position-is i k 8 21 14 _ e f refl refl (c .before .bad-id .ensures) (c .kind-if2 .ensures)
+returns-2 c i =
+    let start = c .before .before .before .before .before in
+    position-is i (bkey (start .args .h) (start .args .value .now)) 8 21 14 _ (c .before .before .before .pair .ensures) (c .before .before .match .keys2) (omega arith) tt refl refl (c .before .bad-id .ensures) (c .kind-if2 .ensures)
 
 returns-3 : tie.Need-returns-3
 unfolding checkPosition is foreignType when badId accountingJunk accountingKind
-returns-3 c =
-    let h = c .before .before .before .before .before .args .h in
-    let k : Bkey = bkey h (c .before .before .before .before .before .args .value .now) in
-    let e : h .btree ≡ 9 = omega arith in
-    let f : h .«key_type» ≡ 22 = omega arith in
-    λ i. position-is i k 9 22 15 _ e f refl refl (c .before .bad-id2 .ensures) (c .kind-if3 .ensures)
+returns-3 c i =
+    let start = c .before .before .before .before .before in
+    position-is i (bkey (start .args .h) (start .args .value .now)) 9 22 15 _ (c .before .before .before .pair .ensures) (c .before .before .match .keys3) (omega arith) tt refl refl (c .before .bad-id2 .ensures) (c .kind-if3 .ensures)
 
 returns-4 : tie.Need-returns-4
 unfolding checkPosition is foreignType when badId accountingJunk accountingKind
-returns-4 c =
-    let h = c .before .before .before .before .before .args .h in
-    let k : Bkey = bkey h (c .before .before .before .before .before .args .value .now) in
-    let e : h .btree ≡ 7 = omega arith in
-    let f : h .«key_type» ≡ 16 = omega arith in
-    λ i. position-is i k 7 16 16 (not (eqb (h .inode) 0)) e f refl refl refl (c .kind-if4 .ensures)
+returns-4 c i =
+    let start = c .before .before .before .before .before in
+    position-is i (bkey (start .args .h) (start .args .value .now)) 7 16 16 (not (eqb (start .args .h .inode) 0)) (c .before .before .before .pair .ensures) (c .before .before .match .keys4) (omega arith) tt refl refl refl (c .kind-if4 .ensures)
 
 returns-5 : tie.Need-returns-5
 unfolding checkPosition is foreignType when badId accountingJunk accountingKind
-returns-5 c =
-    let h = c .before .before .before .before .before .args .h in
-    let k : Bkey = bkey h (c .before .before .before .before .before .args .value .now) in
-    let e : h .btree ≡ 0 = omega arith in
-    let f : h .«key_type» ≡ 15 = omega arith in
-    λ i. position-is i k 0 15 17 _ e f refl refl (c .before .front-pad-bad .ensures) (c .kind-if5 .ensures)
+returns-5 c i =
+    let start = c .before .before .before .before .before in
+    position-is i (bkey (start .args .h) (start .args .value .now)) 0 15 17 _ (c .before .before .before .pair .ensures) (c .before .before .match .keys5) (omega arith) tt refl refl (c .before .front-pad-bad .ensures) (c .kind-if5 .ensures)
 
 returns-6 : tie.Need-returns-6
 unfolding checkPosition is foreignType when badId accountingJunk accountingKind
-returns-6 c =
-    let h = c .before .before .before .before .before .args .h in
-    let k : Bkey = bkey h (c .before .before .before .before .before .args .value .now) in
-    let e : h .btree ≡ 17 = omega arith in
-    let f : h .«key_type» ≡ 35 = omega arith in
-    λ i. position-is i k 17 35 18 (not (eqb (h .inode) 1)) e f refl refl refl (c .kind-if6 .ensures)
+returns-6 c i =
+    let start = c .before .before .before .before .before in
+    position-is i (bkey (start .args .h) (start .args .value .now)) 17 35 18 (not (eqb (start .args .h .inode) 1)) (c .before .before .before .pair .ensures) (c .before .before .match .keys6) (omega arith) tt refl refl refl (c .kind-if6 .ensures)
 
 returns-7 : tie.Need-returns-7
 unfolding checkPosition is foreignType when badId accountingJunk accountingKind
-returns-7 c =
-    let h = c .before .before .before .before .before .args .h in
-    let k : Bkey = bkey h (c .before .before .before .before .before .args .value .now) in
-    let e : h .btree ≡ 15 = omega arith in
-    let f : h .«key_type» ≡ 31 = omega arith in
-    λ i. position-is i k 15 31 19 _ e f refl refl (c .before .bad-id3 .ensures) (c .kind-if7 .ensures)
+returns-7 c i =
+    let start = c .before .before .before .before .before in
+    position-is i (bkey (start .args .h) (start .args .value .now)) 15 31 19 _ (c .before .before .before .pair .ensures) (c .before .before .match .keys7) (omega arith) tt refl refl (c .before .bad-id3 .ensures) (c .kind-if7 .ensures)
 
 returns-8 : tie.Need-returns-8
 unfolding checkPosition is foreignType when badId accountingJunk accountingKind
-returns-8 c =
-    let h = c .before .before .before .before .before .args .h in
-    let k : Bkey = bkey h (c .before .before .before .before .before .args .value .now) in
-    let e : h .btree ≡ 20 = omega arith in
-    let f : h .«key_type» ≡ 34 = omega arith in
-    λ i. position-is i k 20 34 6 _ e f refl refl (c .before .accounting-junk .ensures) (c .kind-if8 .ensures)
+returns-8 c i =
+    let start = c .before .before .before .before .before in
+    position-is i (bkey (start .args .h) (start .args .value .now)) 20 34 6 _ (c .before .before .before .pair .ensures) (c .before .before .match .keys8) (omega arith) tt refl refl (c .before .accounting-junk .ensures) (c .kind-if8 .ensures)
 
 returns-9 : tie.Need-returns-9
 unfolding checkPosition is foreignType when badId accountingJunk accountingKind
-returns-9 c =
-    let h = c .before .before .before .before .before .args .h in
-    let k : Bkey = bkey h (c .before .before .before .before .before .args .value .now) in
-    let e : h .btree ≡ 13 = omega arith in
-    let f : h .«key_type» ≡ 28 = omega arith in
-    λ i. position-is i k 13 28 20 _ e f refl refl (c .before .level-bad .ensures) (c .kind-if9 .ensures)
+returns-9 c i =
+    let start = c .before .before .before .before .before in
+    position-is i (bkey (start .args .h) (start .args .value .now)) 13 28 20 _ (c .before .before .before .pair .ensures) (c .before .before .match .keys9) (omega arith) tt refl refl (c .before .level-bad .ensures) (c .kind-if9 .ensures)
 
 returns-10 : tie.Need-returns-10
 unfolding checkPosition is foreignType when badId accountingJunk accountingKind
-returns-10 c =
-    let h = c .before .before .before .before .before .args .h in
-    let k : Bkey = bkey h (c .before .before .before .before .before .args .value .now) in
-    let e : h .btree ≡ 3 = omega arith in
-    let f : h .«key_type» ≡ 11 = omega arith in
-    λ i. position-is i k 3 11 21 _ e f refl refl (c .before .xattr-short .ensures) (c .kind-if10 .ensures)
+returns-10 c i =
+    let start = c .before .before .before .before .before in
+    position-is i (bkey (start .args .h) (start .args .value .now)) 3 11 21 _ (c .before .before .before .pair .ensures) (c .before .before .match .keys10) (omega arith) tt refl refl (c .before .xattr-short .ensures) (c .kind-if10 .ensures)
 
 returns-11 : tie.Need-returns-11
 unfolding checkPosition is foreignType when badId accountingJunk accountingKind
-returns-11 c =
-    let h = c .before .before .before .args .h in
-    let k : Bkey = bkey h (c .before .before .before .args .value .now) in
-    let e : h .btree ≡ 2 = omega arith in
-    let f : h .«key_type» ≡ 11 = omega arith in
-    λ i. position-is i k 2 11 22 true e f refl refl refl refl
+returns-11 c i =
+    let start = c .before .before .before in
+    position-is i (bkey (start .args .h) (start .args .value .now)) 2 11 22 true (c .before .pair .ensures) (c .match .keys11) (omega arith) tt refl refl refl refl
 
 returns-12 : tie.Need-returns-12
 unfolding checkPosition is foreignType when badId accountingJunk accountingKind
-returns-12 c =
-    let h = c .before .before .before .args .h in
-    let k : Bkey = bkey h (c .before .before .before .args .value .now) in
-    let e : h .btree ≡ 19 = omega arith in
-    let f : h .«key_type» ≡ 32 = omega arith in
-    λ i. position-is i k 19 32 22 true e f refl refl refl refl
+returns-12 c i =
+    let start = c .before .before .before in
+    position-is i (bkey (start .args .h) (start .args .value .now)) 19 32 22 true (c .before .pair .ensures) (c .match .keys12) (omega arith) tt refl refl refl refl
 
 returns-13 : tie.Need-returns-13
 unfolding checkPosition is foreignType when badId accountingJunk accountingKind
-returns-13 c =
-    let h = c .before .before .before .args .h in
-    let k : Bkey = bkey h (c .before .before .before .args .value .now) in
-    let e : h .btree ≡ 19 = omega arith in
-    let f : h .«key_type» ≡ 33 = omega arith in
-    λ i. position-is i k 19 33 22 true e f refl refl refl refl
+returns-13 c i =
+    let start = c .before .before .before in
+    position-is i (bkey (start .args .h) (start .args .value .now)) 19 33 22 true (c .before .pair .ensures) (c .match .keys13) (omega arith) tt refl refl refl refl
 
 returns-14 : tie.Need-returns-14
 unfolding checkPosition is foreignType when badId accountingJunk accountingKind
-returns-14 c =
-    let h = c .before .before .before .args .h in
-    let k : Bkey = bkey h (c .before .before .before .args .value .now) in
-    let e : h .btree ≡ 13 = omega arith in
-    let f : h .«key_type» ≡ 29 = omega arith in
-    λ i. position-is i k 13 29 22 true e f refl refl refl refl
+returns-14 c i =
+    let start = c .before .before .before in
+    position-is i (bkey (start .args .h) (start .args .value .now)) 13 29 22 true (c .before .pair .ensures) (c .match .keys14) (omega arith) tt refl refl refl refl
 
 returns-15 : tie.Need-returns-15
 unfolding checkPosition is foreignType when badId accountingJunk accountingKind
-returns-15 c =
-    let h = c .before .before .before .args .h in
-    let k : Bkey = bkey h (c .before .before .before .args .value .now) in
-    let e : h .btree ≡ 13 = omega arith in
-    let f : h .«key_type» ≡ 22 = omega arith in
-    λ i. position-is i k 13 22 22 true e f refl refl refl refl
+returns-15 c i =
+    let start = c .before .before .before in
+    position-is i (bkey (start .args .h) (start .args .value .now)) 13 22 22 true (c .before .pair .ensures) (c .match .keys15) (omega arith) tt refl refl refl refl
 
 returns-16 : tie.Need-returns-16
 unfolding checkPosition is foreignType when kindFound
