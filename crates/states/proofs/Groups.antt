@@ -135,7 +135,7 @@ keys-by kind group id of s one (suc n) p =
 
 -- ---- the rule
 
-each-same : {A : Type 0} (f g : A → List Finding) → ((x : A) → f x ≡ g x) → (i : ℕ) (xs : List A) → each (λ _ x. f x) i xs ≡ each (λ _ x. g x) i xs
+pub each-same : {A : Type 0} (f g : A → List Finding) → ((x : A) → f x ≡ g x) → (i : ℕ) (xs : List A) → each (λ _ x. f x) i xs ≡ each (λ _ x. g x) i xs
 unfolding each
 each-same f g h i [] = refl
 each-same f g h i (x ∷ xs) = ap₂ (λ (a b : List Finding). a ++ b) (h x) (each-same f g h (suc i) xs)

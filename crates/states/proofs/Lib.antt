@@ -5,5 +5,6 @@ mod Counts
 mod Examples
 mod Gather
 mod Groups
+mod Snapshots
 mod States
 mod Words

@@ -7,8 +7,11 @@ use Rattle.findings.specs.Findings.{bytesOf}
 use Rattle.findings.proofs.put_word.Statement.{statement}
 use Rattle.findings.proofs.put_word.Tie as tie
 
-pub put-word-spec : {M : Type 1} → statement M
+returns : tie.Need-returns
 unfolding bytesOf
+returns c = simp towards-suc
+
+pub put-word-spec : {M : Type 1} → statement M
 put-word-spec =
     tie.close
     (tie.spec
@@ -36,4 +39,4 @@ put-word-spec =
     (λ c. search needs)
     (λ c. simp length-set (omega arith))
     (λ c. simp length-set)
-    (λ c. simp towards-suc))
+    returns)

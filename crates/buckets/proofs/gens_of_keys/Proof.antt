@@ -1,0 +1,53 @@
+-- `buckets::gens_of_keys` meets its contract: a walk over the keys.
+use Prim.Native.Nat.{_+_, _*_, _≤_}
+use mathlib.Core.Path.{refl}
+use Rattle.book.specs.Book.{keysFrom, bookOf}
+use Rattle.book.specs.Walk.{KeysFit}
+use Rattle.book.proofs.Walk.{parts, front-end}
+use Rattle.findings.proofs.Walk.{Walk, first, last, each-none, begun-length}
+use Rattle.walk.proofs.Keys.{keys-none, head-fits, value-fits, rest-fits, turn-keys-any}
+use Rattle.buckets.specs.Steps.{keyGens}
+use native.Mathlib.Omega.{arith}
+use Rattle.buckets.proofs.gens_of_keys.Statement.{statement}
+use Rattle.buckets.proofs.gens_of_keys.Tie as tie
+
+abbrev Inv-loop : tie.InvT-loop
+Inv-loop book h at out₀ n₀ left₀ p₀ out n left p =
+    (n + left * 256 ≤ h .keys * 256) × (left ≤ h .keys) × KeysFit book left p
+    × Walk (λ _ k. keyGens (h .device) (bookOf book .gens) k) (bookOf book .keys) out₀ 0 (keysFrom book left p) n out
+
+abbrev μ-loop : tie.MeasureT-loop
+μ-loop book h at out₀ n₀ left₀ p₀ out n left p = left
+
+loop-holds : tie.Need-loop-holds Inv-loop μ-loop
+loop-holds c =
+    let o = parts (c .before .before .pre) in
+    (omega arith, omega arith, o .keys-fit, rw (o .keys) first)
+
+loop-again : tie.Need-loop-again Inv-loop μ-loop
+loop-again c =
+    let l = c .before .before .before .before .before .before .before .loop .inv in
+    let left = c .before .before .before .before .before .before .loop-test .taken in
+    let front = c .before .key-front .ensures in
+    (omega arith, omega arith, rest-fits _ _ _ left front (l .2), turn-keys-any _ _ _ _ left (l .2) front (λ i k. refl) (l .3) (c .before .before .before .before .key-gens .ensures .0))
+
+returns : tie.Need-returns Inv-loop μ-loop
+returns c =
+    (last (c .before .loop .inv .3) (each-none _ _ (keys-none _ _ _ (omega arith))), omega arith)
+
+pub gens-of-keys-spec : {M : Type 1} → statement M
+gens-of-keys-spec =
+    tie.close
+    (tie.spec
+    Inv-loop
+    μ-loop
+    loop-holds
+    (λ c κs. (c .before .before .before .before .before .pre, head-fits _ _ _ (c .before .loop-test .taken) (c .before .before .loop .inv .2), value-fits _ _ _ (c .before .loop-test .taken) (c .before .before .loop .inv .2), omega arith))
+    (λ c κs. (parts (c .before .before .before .before .before .before .before .before .pre) .small, omega (arith, head-fits _ _ _ (c .before .before .before .before .loop-test .taken) (c .before .before .before .before .before .loop .inv .2))))
+    (λ c. omega (arith, head-fits _ _ _ (c .before .before .before .before .before .loop-test .taken) (c .before .before .before .before .before .before .loop .inv .2)))
+    (λ c. omega (arith, front-end _ _ (c .before .key-front .ensures), value-fits _ _ _ (c .before .before .before .before .before .before .loop-test .taken) (c .before .before .before .before .before .before .before .loop .inv .2)))
+    (λ c. omega arith)
+    (λ c. omega arith)
+    loop-again
+    (λ c. begun-length (c .before .loop .inv .3))
+    returns)

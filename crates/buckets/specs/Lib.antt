@@ -1,0 +1,3 @@
+pub mod Gens
+pub mod FreeSpace
+pub mod Steps
