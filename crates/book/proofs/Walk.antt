@@ -1,5 +1,5 @@
 -- What an accepted book fixes, and the step by which a rule walks over its keys.
-use Prim.Native.Nat.{ℕ, zero, suc, _+_, _-_, _≤_, _<_}
+use Prim.Native.Nat.{ℕ, zero, suc, _+_, _-_, _*_, _≤_, _<_}
 use mathlib.Core.Path.{_≡_, refl, ap}
 use mathlib.Core.Bool.{Bool}
 use mathlib.Core.List.{List, [], _∷_}
@@ -75,6 +75,20 @@ accepted-parts s accepted =
 
 pub parts : {s : List ℕ} {h : Header} {at : Places} → Opened s h at → Parts s h at
 parts {s} o = rw (o .header, o .places) (accepted-parts s (o .accepted))
+
+-- a key has 28 bytes or more, so a book has at most 37,449 of them
+room : (s : List ℕ) (n p : ℕ) → p ≤ length s → KeysFit s n p → p + n * 28 ≤ length s
+unfolding KeysFit
+room s zero p h fit = omega arith
+room s (suc n) p h fit = omega (arith, key-end s p, room s n (keyEnd s p) (fit .0) (fit .1))
+
+fit-few : (s : List ℕ) (n p : ℕ) → length s ≤ 1048576 → KeysFit s n p → n ≤ 37449
+unfolding KeysFit
+fit-few s zero p small fit = omega arith
+fit-few s (suc n) p small fit = omega (arith, key-end s p, room s n (keyEnd s p) (fit .0) (fit .1))
+
+pub few-keys : {s : List ℕ} {h : Header} {at : Places} → Opened s h at → h .keys ≤ 37449
+few-keys {s} {h} {at} o = let p = parts o in fit-few s (h .keys) (at .keys) (p .small) (p .keys-fit)
 
 -- what the answers of `scan` say of the bytes
 pub opened : (s : List ℕ) {h : Header} {at : Places} → scanOf (parse s) ≡ scanned.Accepted h at → Opened s h at

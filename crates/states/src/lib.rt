@@ -473,7 +473,7 @@ fn show_subvolumes(
 ) -> usize
     requires { ⌜ Opened (now book) h at × (2 * n ≤ length (now work)) × (n ≤ h .keys) ⌝ }
     ensures found { λ r. ⌜ Found (now (out .entry)) (each (λ _ k. judged (pairsOf (now (work .entry)) n) k) 0 (bookOf (now (book .entry)) .keys)) r (now (out .exit)) ⌝ }
-    ensures few { λ r. ⌜ r ≤ h .keys * 131072 ⌝ }
+    ensures few { λ r. ⌜ r ≤ h .keys * 74899 ⌝ }
 {
     let mut found: usize = 0;
     let mut left = h.keys;
@@ -497,7 +497,7 @@ pub fn subvolume_states(
 ) -> usize
     requires { ⌜ Opened (now book) h at × (2 * h .keys ≤ length (now work)) ⌝ }
     ensures found { λ r. ⌜ Found (now (out .entry)) (subvolumeStates (bookOf (now (book .entry)))) r (now (out .exit)) ⌝ }
-    ensures few { λ r. ⌜ r ≤ h .keys * 131072 ⌝ }
+    ensures few { λ r. ⌜ r ≤ h .keys * 74899 ⌝ }
 {
     let n = put_states(book, h, at, work);
     show_subvolumes(book, h, at, work, n, out)

@@ -5,7 +5,7 @@ use Rattle.findings.proofs.Walk.{Begun, first, turn, last, each-none, begun-len
 use Rattle.pairs.specs.Pairs.{pairsOf}
 use Rattle.book.specs.Book.{keysFrom}
 use Rattle.book.specs.Walk.{KeysFit}
-use Rattle.book.proofs.Walk.{parts, step, no-keys}
+use Rattle.book.proofs.Walk.{parts, few-keys, step, no-keys}
 use Rattle.walk.proofs.Gather.{at-key, at-end, key-next}
 use Rattle.states.specs.Steps.{judged}
 use borrow.Author.Needs.{needs}
@@ -14,7 +14,7 @@ use Rattle.states.proofs.show_subvolumes.Statement.{statement}
 use Rattle.states.proofs.show_subvolumes.Tie as tie
 
 abbrev Inv-loop : tie.InvT-loop
-Inv-loop book work n out₀ found₀ left₀ p₀ out found left p = KeysFit book left p × (found + left * 131072 ≤ left₀ * 131072) × Begun (each (λ _ k. judged (pairsOf work n) k) 0 (keysFrom book left₀ p₀)) out₀ (each (λ _ k. judged (pairsOf work n) k) 0 (keysFrom book left p)) found out
+Inv-loop book work n out₀ found₀ left₀ p₀ out found left p = KeysFit book left p × (found + left * 74899 ≤ left₀ * 74899) × Begun (each (λ _ k. judged (pairsOf work n) k) 0 (keysFrom book left₀ p₀)) out₀ (each (λ _ k. judged (pairsOf work n) k) 0 (keysFrom book left p)) found out
 
 abbrev μ-loop : tie.MeasureT-loop
 μ-loop book work n out₀ found₀ left₀ p₀ out found left p = left
@@ -28,7 +28,7 @@ loop-again c =
     let fit = c .before .before .before .before .before .before .before .loop .inv .0 in
     let ends = at-end (at-key (parts (c .before .before .before .before .before .before .before .before .before .before .before .pre .0) .small) (c .before .before .before .before .before .before .loop-test .taken) (c .before .before .before .before .before .before .before .loop .inv .0) (c .before .before .before .before .before .key-front .ensures)) in (
       rw ends (step s left p some fit .rest),
-      omega (arith, c .before .before .before .before .before .before .before .loop .inv .1, c .before .before .before .show-subvolume .ensures .1, c .before .before .before .before .before .before .before .before .before .before .before, some),
+      omega (arith, c .before .before .before .before .before .before .before .loop .inv .1, c .before .before .before .show-subvolume .ensures .1, c .before .before .before .before .before .before .before .before .before .before .before, few-keys (c .before .before .before .before .before .before .before .before .before .before .before .pre .0), some),
       turn (c .before .before .before .before .before .before .before .loop .inv .2) (c .before .before .before .show-subvolume .ensures .0) (key-next (judged (pairsOf (c .before .before .before .before .before .before .before .before .before .before .before .args .work .now) (c .before .before .before .before .before .before .before .before .before .before .before .args .n))) s left p some fit ends),
     )
 
