@@ -1,0 +1,93 @@
+-- What the main call and the two questions answer, and what the main call leaves in the two areas it is lent (document 01, "The entry").
+-- The enums Checked, Ancestor and Availability are those that src/lib.rt declares.
+use Prim.Native.Nat.{ℕ, _+_, _*_, _^_}
+use mathlib.Core.Bool.{Bool, true, false, cond}
+use mathlib.Core.List.{List}
+use mathlib.Core.Option.{Option, none, some}
+use lib.ListN.{length, replicate}
+use lib.Dec.{ltb}
+use Rattle.findings.specs.Findings.{put}
+use Rattle.book.specs.Book.{Book, parentsOf}
+use Rattle.book.specs.Refusals.{Outcome}
+use Rattle.parents.specs.Roots.{rootOf}
+use Rattle.states.specs.Subvolumes.{isUnavailable}
+use Rattle.rules.specs.Rules.{findingsOf}
+use Rattle.dockwrench.specs.declared.Checked.{Checked}
+use Rattle.dockwrench.specs.declared.Checked.the-variants as checked
+use Rattle.dockwrench.specs.declared.Ancestor.{Ancestor}
+use Rattle.dockwrench.specs.declared.Ancestor.the-variants as ancestor
+use Rattle.dockwrench.specs.declared.Availability.{Availability}
+use Rattle.dockwrench.specs.declared.Availability.the-variants as availability
+
+-- THE MAIN CALL, by what the bytes are as a book
+
+-- "9: work area short", "at least two per key"
+unfoldable pub workShort : Book → ℕ → Bool
+workShort b words = ltb words (2 * b .header .keys)
+
+-- the answer over a buffer of `room` bytes and a work area of `words` words: 9; "10: findings exceed the buffer", with the full count; or the count
+unfoldable pub checkBook : Book → ℕ → ℕ → Checked
+checkBook b room words =
+    let count = length (findingsOf b) in
+    cond (workShort b words) (checked.Refused 9 0) (cond (ltb room (17 * count)) (checked.NoRoom count) (checked.Found count))
+
+unfoldable pub check : Outcome → ℕ → ℕ → Checked
+check (Outcome.accepted b) room words = checkBook b room words
+check (Outcome.refused number place) room words = checked.Refused number place
+
+-- the buffer: untouched by refusals 1 to 9; else "the whole findings that fit, from the first, other bytes untouched"
+unfoldable pub bufferAfter : Outcome → ℕ → List ℕ → List ℕ
+bufferAfter (Outcome.accepted b) words buffer = cond (workShort b words) buffer (put buffer (findingsOf b))
+bufferAfter (Outcome.refused number place) words buffer = buffer
+
+-- the work area: untouched by refusals 1 to 9; else "every work word zero"
+unfoldable pub workAfter : Outcome → List ℕ → List ℕ
+workAfter (Outcome.accepted b) work = cond (workShort b (length work)) work (replicate (length work) 0)
+workAfter (Outcome.refused number place) work = work
+
+-- THE QUESTIONS
+
+-- "The ancestor question answers the root and the number of parent links followed, or 11 with zeros"
+unfoldable pub ancestorBy : Option (ℕ × ℕ) → Ancestor
+ancestorBy none = ancestor.NoRoot
+ancestorBy (some root) = ancestor.Root (root .0) (root .1)
+
+unfoldable pub ancestorOf : Outcome → ℕ → Ancestor
+ancestorOf (Outcome.accepted b) id = ancestorBy (rootOf (parentsOf b) id)
+ancestorOf (Outcome.refused number place) id = ancestor.Refused number place
+
+-- "The availability question answers whether the id is in the set that `subvolume_states` returns"
+unfoldable pub availabilityBy : Bool → Availability
+availabilityBy true = availability.Unavailable
+availabilityBy false = availability.Available
+
+unfoldable pub availabilityOf : Outcome → ℕ → Availability
+availabilityOf (Outcome.accepted b) id = availabilityBy (isUnavailable id (b .keys))
+availabilityOf (Outcome.refused number place) id = availability.Refused number place
+
+-- DOCUMENT 01'S NUMBERS
+
+-- an answer: document 01's number; the place, or the links of an ancestor; the count, the root, or 1 for yes
+pub record Answer : Type 0 where
+  pub number : ℕ
+  pub place : ℕ
+  pub count : ℕ
+
+unfoldable pub checkedAnswer : Checked → Answer
+checkedAnswer (checked.Found count) = record { number = 0; place = 0; count = count }
+checkedAnswer (checked.NoRoom count) = record { number = 10; place = 0; count = count }
+checkedAnswer (checked.Refused number place) = record { number = number; place = place; count = 0 }
+
+unfoldable pub ancestorAnswer : Ancestor → Answer
+ancestorAnswer (ancestor.Root root links) = record { number = 0; place = links; count = root }
+ancestorAnswer ancestor.NoRoot = record { number = 11; place = 0; count = 0 }
+ancestorAnswer (ancestor.Refused number place) = record { number = number; place = place; count = 0 }
+
+unfoldable pub availabilityAnswer : Availability → Answer
+availabilityAnswer availability.Unavailable = record { number = 0; place = 0; count = 1 }
+availabilityAnswer availability.Available = record { number = 0; place = 0; count = 0 }
+availabilityAnswer (availability.Refused number place) = record { number = number; place = place; count = 0 }
+
+-- an answer for C as one number: 8 bits, 24 bits, 32 bits
+unfoldable pub packed : Answer → ℕ
+packed a = a .number * 2 ^ 56 + a .place * 2 ^ 32 + a .count

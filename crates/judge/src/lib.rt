@@ -1,0 +1,1 @@
+// All rules over an accepted book, in document 01's order.
