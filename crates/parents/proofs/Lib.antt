@@ -1,0 +1,3 @@
+mod Climb
+pub mod Laws
+mod Links
