@@ -8,12 +8,16 @@ use native.Mathlib.Omega.{arith}
 use lib.ListN.{length, set, replicate, length-append}
 use lib.Seq.{set-at}
 use Rattle.book.specs.Maps.{lookup}
+use Rattle.book.specs.Walk.{maybeU32}
+use Rattle.book.specs.declared.MaybeU32.{MaybeU32}
+use Rattle.book.specs.declared.MaybeU32.the-variants.{Is, Absent}
+use Rattle.book.proofs.Maps.{word-is, word-absent}
 use Rattle.parents.specs.Roots.{oneMore, rootWithin, rootOf}
 use Rattle.parents.specs.Answers.{rootIs, chain, padded, ancestorsOf}
 use Rattle.parents.specs.declared.Root.{Root}
 use Rattle.parents.specs.declared.Root.the-variants.{At, NoRoot}
 use Rattle.parents.specs.declared.Ancestors.{Ancestors}
-use Rattle.parents.proofs.Links.{link, link-absent, link-top, chain-more, chain-end, root-more, root-full, root-here, root-absent}
+use Rattle.parents.proofs.Links.{link, link-to, link-absent, link-top, chain-more, chain-end, root-more, root-full, root-here, root-absent}
 
 -- a root that lies k links further
 unfoldable pub past : ℕ → Option (ℕ × ℕ) → Option (ℕ × ℕ)
@@ -43,26 +47,39 @@ climbed-start t id = record { few = omega arith; rest = past-none (rootWithin t 
 one-less : (links : ℕ) → links < 1024 → 1024 - links ≡ suc (1024 - (links + 1))
 one-less links l = omega arith
 
-module _ {t : List (ℕ × ℕ)} {id at links : ℕ} (c : Climbed t id at links) where
-  pub climbed-more : {p : ℕ} → links < 1024 → link t at ≡ some p → Climbed t id p (links + 1)
-  climbed-more l e = record {
-    few = omega arith;
-    rest = c .rest ∙ rw (one-less links l, root-more t at (1024 - (links + 1)) e) (past-more links _);
-  }
+-- what an answer of `parent_of` says of `at`: its parent is 0, another id, or absent
+module _ (t : List (ℕ × ℕ)) (at : ℕ) {r : MaybeU32} (e : r ≡ maybeU32 (lookup at t)) where
+  top-is : {p : ℕ} → r ≡ Is p → p ≡ 0 → lookup at t ≡ some 0
+  top-is f z = word-is _ (sym e ∙ f) ∙ ap some z
 
-  pub climbed-root : {p : ℕ} → lookup at t ≡ some p → p ≡ 0 → At at links ≡ rootIs (rootOf t id)
-  unfolding past rootIs
-  climbed-root e z = rw (c .rest, root-here t at (1024 - links) (e ∙ ap some z), add-zero links)
+  link-is : {p : ℕ} → r ≡ Is p → (p ≡ 0 → ⊥) → link t at ≡ some p
+  link-is f z = link-to t at (word-is _ (sym e ∙ f)) z
 
-  pub climbed-absent : lookup at t ≡ none → NoRoot ≡ rootIs (rootOf t id)
-  unfolding past rootIs
-  climbed-absent e = rw (c .rest, root-absent t at (1024 - links) e)
+  absent-is : r ≡ Absent → lookup at t ≡ none
+  absent-is f = word-absent _ (sym e ∙ f)
 
-  pub climbed-full : {p : ℕ} → links ≡ 1024 → link t at ≡ some p → NoRoot ≡ rootIs (rootOf t id)
+module _ {t : List (ℕ × ℕ)} {id at links : ℕ} (c : Climbed t id at links) {r : MaybeU32} (e : r ≡ maybeU32 (lookup at t)) where
+  pub climbed-more : {p : ℕ} → r ≡ Is p → (p ≡ 0 → ⊥) → (links ≡ 1024 → ⊥) → Climbed t id p (links + 1)
+  climbed-more f z l =
+      let less : links < 1024 = omega arith in
+      record {
+        few = omega arith;
+        rest = c .rest ∙ rw (one-less links less, root-more t at (1024 - (links + 1)) (link-is t at e f z)) (past-more links _);
+      }
+
+  pub climbed-root : {p : ℕ} → r ≡ Is p → p ≡ 0 → At at links ≡ rootIs (rootOf t id)
   unfolding past rootIs
-  climbed-full full e =
+  climbed-root f z = rw (c .rest, root-here t at (1024 - links) (top-is t at e f z), add-zero links)
+
+  pub climbed-absent : r ≡ Absent → NoRoot ≡ rootIs (rootOf t id)
+  unfolding past rootIs
+  climbed-absent f = rw (c .rest, root-absent t at (1024 - links) (absent-is t at e f))
+
+  pub climbed-full : {p : ℕ} → r ≡ Is p → (p ≡ 0 → ⊥) → links ≡ 1024 → NoRoot ≡ rootIs (rootOf t id)
+  unfolding past rootIs
+  climbed-full f z full =
       let none-left : 1024 - links ≡ 0 = omega arith in
-      rw (c .rest, none-left, root-full t at e)
+      rw (c .rest, none-left, root-full t at (link-is t at e f z))
 
 -- the first `len` ids of the array are those on the way from id to `at`; the rest are zeros
 pub record Walked (t : List (ℕ × ℕ)) (id : ℕ) (ids : List ℕ) (len at : ℕ) : Type 0 where
@@ -83,33 +100,34 @@ unfolding ancestorsOf padded
 answer t id len passed ids root c l i r = rw (c, l) (cc)
 
 module _ {t : List (ℕ × ℕ)} {id at len : ℕ} {ids : List ℕ} (w : Walked t id ids len at) where
-  pub walked-more : {p : ℕ} → len < 1024 → link t at ≡ some p → Walked t id (set ids len p) (len + 1) p
-  walked-more {p} l e =
-      let less = one-less len l in
-      let zeros : List ℕ = replicate (1024 - (len + 1)) 0 in
-      record {
-        passed = w .passed ++ (p ∷ []);
-        len-is = length-append (w .passed) (p ∷ []) ∙ ap (λ (n : ℕ). n + 1) (w .len-is);
-        ids-are = rw (w .ids-are, less) (set-at (w .passed) 0 zeros p len (w .len-is) ∙ sym (append-assoc (w .passed) (p ∷ []) zeros));
-        chain-is = w .chain-is ∙ rw (less, chain-more t at (1024 - (len + 1)) e) (sym (append-assoc (w .passed) (p ∷ []) _));
-        climbed = climbed-more (w .climbed) l e;
-      }
-
   -- the walk is over where the chain has no more ids
   over : {root : Root} → chain t at (1024 - len) ≡ [] → root ≡ rootIs (rootOf t id) →
       _≡_ {A = Ancestors} (record { ids = ids; len = len; root = root }) (ancestorsOf t id)
   over e r = answer t id len (w .passed) ids _ (w .chain-is ∙ rw (e, append-nil (w .passed))) (w .len-is) (w .ids-are) r
 
-  pub walked-root : {p : ℕ} → lookup at t ≡ some p → p ≡ 0 →
-      _≡_ {A = Ancestors} (record { ids = ids; len = len; root = At at len }) (ancestorsOf t id)
-  walked-root e z = over (chain-end t at (1024 - len) (link-top t at (e ∙ ap some z))) (climbed-root (w .climbed) e z)
+  module _ {r : MaybeU32} (e : r ≡ maybeU32 (lookup at t)) where
+    pub walked-more : {p : ℕ} → r ≡ Is p → (p ≡ 0 → ⊥) → (len ≡ 1024 → ⊥) → Walked t id (set ids len p) (len + 1) p
+    walked-more {p} f z l =
+        let few = w .climbed .few in
+        let less = one-less len (omega arith) in
+        let zeros : List ℕ = replicate (1024 - (len + 1)) 0 in
+        record {
+          passed = w .passed ++ (p ∷ []);
+          len-is = length-append (w .passed) (p ∷ []) ∙ ap (λ (n : ℕ). n + 1) (w .len-is);
+          ids-are = rw (w .ids-are, less) (set-at (w .passed) 0 zeros p len (w .len-is) ∙ sym (append-assoc (w .passed) (p ∷ []) zeros));
+          chain-is = w .chain-is ∙ rw (less, chain-more t at (1024 - (len + 1)) (link-is t at e f z)) (sym (append-assoc (w .passed) (p ∷ []) _));
+          climbed = climbed-more (w .climbed) e f z l;
+        }
 
-  pub walked-absent : lookup at t ≡ none → _≡_ {A = Ancestors} (record { ids = ids; len = len; root = NoRoot }) (ancestorsOf t id)
-  walked-absent e = over (chain-end t at (1024 - len) (link-absent t at e)) (climbed-absent (w .climbed) e)
+    pub walked-root : {p : ℕ} → r ≡ Is p → p ≡ 0 → _≡_ {A = Ancestors} (record { ids = ids; len = len; root = At at len }) (ancestorsOf t id)
+    walked-root f z = over (chain-end t at (1024 - len) (link-top t at (top-is t at e f z))) (climbed-root (w .climbed) e f z)
 
-  pub walked-full : {p : ℕ} → len ≡ 1024 → link t at ≡ some p →
-      _≡_ {A = Ancestors} (record { ids = ids; len = len; root = NoRoot }) (ancestorsOf t id)
-  unfolding chain
-  walked-full full e =
-      let none-left : 1024 - len ≡ 0 = omega arith in
-      over (rw none-left) (climbed-full (w .climbed) full e)
+    pub walked-absent : r ≡ Absent → _≡_ {A = Ancestors} (record { ids = ids; len = len; root = NoRoot }) (ancestorsOf t id)
+    walked-absent f = over (chain-end t at (1024 - len) (link-absent t at (absent-is t at e f))) (climbed-absent (w .climbed) e f)
+
+    pub walked-full : {p : ℕ} → r ≡ Is p → (p ≡ 0 → ⊥) → len ≡ 1024 →
+        _≡_ {A = Ancestors} (record { ids = ids; len = len; root = NoRoot }) (ancestorsOf t id)
+    unfolding chain
+    walked-full f z full =
+        let none-left : 1024 - len ≡ 0 = omega arith in
+        over (rw none-left) (climbed-full (w .climbed) e f z full)

@@ -1,14 +1,8 @@
--- `ancestors_of` meets its contract. The invariant: the array begins with the `len` ids on the way to `at`, the rest of it is zeros, and no root was passed. The measure is the room left.
+-- `ancestors_of` meets its contract. The invariant: the array begins with the `len` ids on the way to `at`, the rest of it is zeros, and no
+-- root was passed. The measure is the room left.
 use borrow.Author.Needs.{needs}
-use Prim.Native.Nat.{ℕ, _-_}
-use mathlib.Core.Path.{_≡_, sym, _∙_}
-use mathlib.Core.Option.{some}
-use native.Mathlib.Omega.{arith}
-use denote.Ref.{now}
-use Rattle.book.specs.Maps.{lookup}
+use Prim.Native.Nat.{_-_}
 use Rattle.book.specs.Book.{wordsFrom}
-use Rattle.book.proofs.Maps.{word-is, word-absent}
-use Rattle.parents.proofs.Links.{link-to}
 use Rattle.parents.proofs.Climb.{Walked, walked-start, walked-more, walked-root, walked-absent, walked-full}
 use Rattle.parents.proofs.ancestors_of.Statement.{statement}
 use Rattle.parents.proofs.ancestors_of.Tie as tie
@@ -18,33 +12,6 @@ Inv-loop book start count id ids₀ len₀ at₀ ids len at = Walked (wordsFrom 
 
 abbrev μ-loop : tie.MeasureT-loop
 μ-loop book start count id ids₀ len₀ at₀ ids len at = 1024 - len
-
--- in a turn whose id has a parent: the loop's head, and what the table has
-abbrev A : tie.After-p Inv-loop μ-loop → tie.At-loop Inv-loop μ-loop
-A n = n .before .before .before
-
-is : (n : tie.After-p Inv-loop μ-loop) → lookup (A n .loop .at) (wordsFrom (now (A n .before .before .args .book)) (A n .before .before .args .count) (A n .before .before .args .start)) ≡ some (n .p .given .0 .0)
-is n = word-is _ (sym (n .before .before .parent-of .ensures) ∙ n .p .given .1)
-
-returns : tie.Need-returns Inv-loop μ-loop
-returns c =
-    let n = c .before .before in
-    walked-root (A n .loop .inv) (is n) (c .if1 .taken)
-
-returns-2 : tie.Need-returns-2 Inv-loop μ-loop
-returns-2 c =
-    let n = c .before .before .before in
-    walked-full (A n .loop .inv) (c .if2 .taken) (link-to _ _ (is n) (c .before .if1 .left))
-
-loop-again : tie.Need-loop-again Inv-loop μ-loop
-loop-again c =
-    let n = c .before .before .before in
-    walked-more (A n .loop .inv) (omega arith) (link-to _ _ (is n) (c .before .if1 .left))
-
-returns-3 : tie.Need-returns-3 Inv-loop μ-loop
-returns-3 c =
-    let r = c .before .before in
-    walked-absent (r .before .loop .inv) (word-absent _ (sym (r .parent-of .ensures) ∙ c .enum-told .given .1))
 
 pub ancestors-of-spec : {M : Type 1} → statement M
 ancestors-of-spec =
@@ -56,12 +23,12 @@ ancestors-of-spec =
     (λ c κs. search needs)
     (λ c. search needs)
     (λ c. search needs)
-    returns
-    returns-2
+    (λ c. search walked-root)
+    (λ c. search walked-full)
     (λ c. search needs)
     (λ c. search needs)
     (λ c. search needs)
     (λ c. search needs)
-    loop-again
+    (λ c. search walked-more)
     (λ c. search needs)
-    returns-3)
+    (λ c. search walked-absent))
