@@ -1,0 +1,5 @@
+-- For this crate and those that link it: `Laws` has what callers cite of the walk.
+mod Climb
+mod Examples
+pub mod Laws
+mod Links
