@@ -2,4 +2,4 @@
 mod Climb
 mod Examples
 pub mod Laws
-mod Links
+pub mod Links

@@ -1,1 +1,2 @@
 pub mod RuleKinds
+pub mod Demand3

@@ -72,27 +72,27 @@ gap-kinds at (x ∷ xs) to =
     within-append (when (ltb at (x .0)) (finding 50 at (x .0))) _ (search within) (within-append (when (isFree (x .1)) (finding 49 (x .0) 0)) _ (search within) (gap-kinds (suc (x .0)) xs to))
 
 -- the rules
-key-kinds : (b : Book) → Within keyKinds (each (keyFindings b) 0 (b .keys))
+pub key-kinds : (b : Book) → Within keyKinds (each (keyFindings b) 0 (b .keys))
 unfolding has keyFindings checkKeyDevice checkKeyFields checkAccountingKey checkInodeV3Word checkSnapshotPad checkAllocV4Value checkPosition checkStateWords snapshotState subvolumeState subvolumeWord
 key-kinds b = search within depth 24
 
-subvolume-kinds : (b : Book) → Within (29 ∷ 30 ∷ 31 ∷ []) (subvolumeStates b)
+pub subvolume-kinds : (b : Book) → Within (29 ∷ 30 ∷ 31 ∷ []) (subvolumeStates b)
 unfolding has subvolumeStates subvolumeFindings
 subvolume-kinds b = search within depth 24
 
-claim-kinds : (b : Book) → Within (32 ∷ []) (snapshotClaims b)
+pub claim-kinds : (b : Book) → Within (32 ∷ []) (snapshotClaims b)
 unfolding has snapshotClaims claimFindings
 claim-kinds b = search within depth 24
 
-state-kinds : (b : Book) → Within (33 ∷ 34 ∷ 35 ∷ []) (snapshotStates b)
+pub state-kinds : (b : Book) → Within (33 ∷ 34 ∷ 35 ∷ []) (snapshotStates b)
 unfolding has snapshotStates snapshotStateFindings
 state-kinds b = search within depth 24
 
-flag-kinds : (b : Book) → Within (36 ∷ []) (snapshotSubvolFlags b)
+pub flag-kinds : (b : Book) → Within (36 ∷ []) (snapshotSubvolFlags b)
 unfolding has snapshotSubvolFlags flagFindings
 flag-kinds b = search within depth 24
 
-child-kinds : (b : Book) → Within (37 ∷ 38 ∷ []) (subvolumeChildren b)
+pub child-kinds : (b : Book) → Within (37 ∷ 38 ∷ []) (subvolumeChildren b)
 unfolding has subvolumeChildren missingEntry
 child-kinds b = search (within, entry-kinds) depth 24
 
@@ -100,11 +100,11 @@ link-kinds : (b : Book) → Within linkKinds (snapshotLinks b)
 unfolding has snapshotLinks treeFindings linkFindings rootFindings backrefFindings childFindings skipFindings
 link-kinds b = search (within, master-kinds) depth 24
 
-gen-kinds : (b : Book) → Within (46 ∷ []) (bucketGensAgainstAlloc b)
+pub gen-kinds : (b : Book) → Within (46 ∷ []) (bucketGensAgainstAlloc b)
 unfolding has bucketGensAgainstAlloc gensOfKey genAt uncovered
 gen-kinds b = search within depth 24
 
-run-kinds : (b : Book) → Within (47 ∷ 48 ∷ 49 ∷ 50 ∷ []) (freeSpace b)
+pub run-kinds : (b : Book) → Within (47 ∷ 48 ∷ 49 ∷ 50 ∷ []) (freeSpace b)
 unfolding has freeSpace runFindings setFindings
 run-kinds b = search (within, gap-kinds) depth 24
 

@@ -1,6 +1,6 @@
 -- Which kinds a rule can give.
 use Prim.Native.Nat.{ℕ}
-use mathlib.Core.Bool.{true}
+use mathlib.Core.Bool.{Bool, true, not, _&&_}
 use mathlib.Core.Path.{_≡_}
 use mathlib.Core.List.{List, [], _∷_, _++_}
 use Rattle.findings.specs.Findings.{Finding, each}
@@ -51,3 +51,8 @@ kindsOf =
 unfoldable pub listOf : List Kinds → Book → List Finding
 listOf [] b = []
 listOf (k ∷ ks) b = k .rule b ++ listOf ks b
+
+-- no number of a list is in another
+unfoldable pub apart : List ℕ → List ℕ → Bool
+apart [] ls = true
+apart (k ∷ ks) ls = not (has k ls) && apart ks ls
