@@ -1,8 +1,10 @@
 -- What callers cite of the walk:
---     root-at, root-none    what `root_of`'s answer says of the root
---     among                 an id other than the snapshot is in the array of `ancestors_of` exactly if it is one of `above`
---     len-le                what `contains` requires of the array's length
---     root-all, root-len    with a root, `above` is the whole chain, and has as many ids as the root has links
+--     root-at, root-none    what the answer of `root_of` says of the root
+--     root-all              with a root, `above` is the whole chain, and has as many ids as the root has links
+-- and of an answer of `ancestors_of`:
+--     among                 an id other than the snapshot is in its array exactly if it is one of `above`
+--     len-le                its length is what `contains` requires
+--     root-is, root-len     its root, and that its length is the number of links to it
 use Prim.Native.Nat.{ℕ, zero, suc, _-_, _≤_, zero-le, suc-le-suc}
 use mathlib.Core.Path.{_≡_, refl, sym, ap, _∙_}
 use mathlib.Core.Bool.{true, false, _||_, or-false, or-true}
@@ -19,6 +21,7 @@ use Rattle.book.specs.Maps.{lookup}
 use Rattle.parents.specs.Roots.{oneMore, rootWithin, rootOf, followed, above}
 use Rattle.parents.specs.Answers.{rootIs, chain, padded, ancestorsOf}
 use Rattle.parents.specs.declared.Root.the-variants.{At, NoRoot}
+use Rattle.parents.specs.declared.Ancestors.{Ancestors}
 use Rattle.parents.proofs.Links.{clash, link, by-link, by-step, link-top, chain-more, chain-end, followed-more, followed-end, root-more, root-full, root-here, root-absent}
 
 pub root-at : (o : Option (ℕ × ℕ)) {root links : ℕ} → rootIs o ≡ At root links → o ≡ some (root, links)
@@ -114,27 +117,18 @@ module _ (t : List (ℕ × ℕ)) where
       (more-both s p _ _ seen (same-ids s n p (p ∷ seen) (linked-more seen at p l e) (has-head p seen refl))))
       (tested (has p seen))))
 
-  -- the array of an answer begins with the ids on the way
-  pub array-is : (id : ℕ) → take ((ancestorsOf t id) .len) ((ancestorsOf t id) .ids) ≡ chain t id 1024
-  unfolding ancestorsOf padded
-  array-is id = take-append-seam (chain t id 1024) (replicate (1024 - length (chain t id 1024)) 0)
-
-  pub among : (id s : ℕ) → (s ≡ id → ⊥) → has s (take ((ancestorsOf t id) .len) ((ancestorsOf t id) .ids)) ≡ has s (above t id)
+  among-chain : (id s : ℕ) → (s ≡ id → ⊥) → has s (chain t id 1024) ≡ has s (above t id)
   unfolding above
-  among id s other =
+  among-chain id s other =
       let alone = has-other s [] other ∙ has-nil s in
       let same = same-ids s 1024 id (id ∷ []) (linked-one id) (has-head id [] refl) in
-      rw (array-is id) (sym (rw (alone, or-false (has s (followed t (id ∷ []) id 1024)), or-false (has s (chain t id 1024))) at same))
+      sym (rw (alone, or-false (has s (followed t (id ∷ []) id 1024)), or-false (has s (chain t id 1024))) at same)
 
   chain-le : (n at : ℕ) → length (chain t at n) ≤ n
   unfolding chain
   chain-le zero at = zero-le
   chain-le (suc n) at =
       by-step t at (λ e. rw (chain-end t at (suc n) e) zero-le) (λ p e. rw (chain-more t at n e) (suc-le-suc (chain-le n p)))
-
-  pub len-le : (id : ℕ) → (ancestorsOf t id) .len ≤ 1024
-  unfolding ancestorsOf
-  len-le id = chain-le 1024 id
 
   one-more : (o : Option (ℕ × ℕ)) {r : ℕ × ℕ} → oneMore o ≡ some r → (q : ℕ × ℕ) × (o ≡ some q) × (suc (q .1) ≡ r .1)
   unfolding oneMore
@@ -175,6 +169,24 @@ module _ (t : List (ℕ × ℕ)) where
       let all = no-repeat 1024 id (id ∷ []) (linked-one id) (has-head id [] refl) e in
       (all, rw all (root-length 1024 id e))
 
-  pub root-len : (id : ℕ) {r : ℕ × ℕ} → rootOf t id ≡ some r → (ancestorsOf t id) .len ≡ r .1
-  unfolding rootOf ancestorsOf
-  root-len id e = root-length 1024 id e
+  -- ---- what `ancestors_of` answers
+  module _ (id : ℕ) {a : Ancestors} (e : a ≡ ancestorsOf t id) where
+    -- the array begins with the ids on the way
+    pub array-is : take (a .len) (a .ids) ≡ chain t id 1024
+    unfolding ancestorsOf padded
+    array-is = rw e (take-append-seam (chain t id 1024) (replicate (1024 - length (chain t id 1024)) 0))
+
+    pub among : {s : ℕ} → (s ≡ id → ⊥) → has s (take (a .len) (a .ids)) ≡ has s (above t id)
+    among {s} other = rw array-is (among-chain id s other)
+
+    pub len-le : a .len ≤ 1024
+    unfolding ancestorsOf
+    len-le = rw e (chain-le 1024 id)
+
+    pub root-is : a .root ≡ rootIs (rootOf t id)
+    unfolding ancestorsOf
+    root-is = rw e
+
+    pub root-len : {r : ℕ × ℕ} → rootOf t id ≡ some r → a .len ≡ r .1
+    unfolding rootOf ancestorsOf
+    root-len h = rw e (root-length 1024 id h)
