@@ -3,3 +3,4 @@ pub mod Maps
 pub mod Tables
 pub mod Walk
 mod Examples
+pub mod Bounds
