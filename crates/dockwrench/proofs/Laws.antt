@@ -1,0 +1,90 @@
+-- What the answers of the calls below say.
+use Prim.Native.Nat.{ℕ, _+_, _≤_, _<_}
+use mathlib.Core.Path.{_≡_, refl, sym, ap, _∙_}
+use mathlib.Core.Bool.{Bool, true, false}
+use mathlib.Core.List.{List, [], _∷_, _++_, append-assoc, append-nil}
+use mathlib.Core.Option.{Option, none, some}
+use native.Mathlib.Omega.{arith}
+use lib.ListN.{length, drop, getD, set, replicate, length-replicate, replicate-append-replicate}
+use lib.Seq.{set-at}
+use Rattle.findings.proofs.Walk.{drop-at, drop-past}
+use Rattle.book.specs.Book.{Book, parentsOf, bookOf}
+use Rattle.book.specs.Refusals.{Outcome, parse}
+use Rattle.book.proofs.Bounds.{refused-bounds}
+use Rattle.parents.specs.declared.Root.{Root}
+use Rattle.parents.specs.declared.Root.the-variants as root
+use Rattle.parents.specs.Roots.{rootOf}
+use Rattle.parents.specs.Answers.{rootIs, ancestorsOf}
+use Rattle.parents.proofs.Laws.{root-at, root-none, len-le, root-len}
+use Rattle.dockwrench.specs.declared.Ancestor.{Ancestor}
+use Rattle.dockwrench.specs.declared.Ancestor.the-variants as ancestor
+use Rattle.dockwrench.specs.declared.Availability.{Availability}
+use Rattle.dockwrench.specs.declared.Availability.the-variants as availability
+use Rattle.dockwrench.specs.Answers.{ancestorBy, ancestorOf, availabilityBy, availabilityOf}
+
+-- a root is at most 1,024 links away
+pub few-links : (t : List (ℕ × ℕ)) (id : ℕ) {r : ℕ × ℕ} → rootOf t id ≡ some r → r .1 ≤ 1024
+few-links t id e = omega (arith, len-le t id {a = ancestorsOf t id} refl, root-len t id {a = ancestorsOf t id} refl e)
+
+-- the answers of `root_of`
+pub found-root : (o : Option (ℕ × ℕ)) {x n : ℕ} → rootIs o ≡ root.At x n → ancestor.Root x n ≡ ancestorBy o
+unfolding ancestorBy
+found-root o e = rw (root-at o e)
+
+pub found-none : (o : Option (ℕ × ℕ)) → rootIs o ≡ root.NoRoot → ancestor.NoRoot ≡ ancestorBy o
+unfolding ancestorBy
+found-none o e = rw (root-none o e)
+
+-- the answers of the ancestor question
+by-links : (t : List (ℕ × ℕ)) (id : ℕ) (o : Option (ℕ × ℕ)) → rootOf t id ≡ o → {x n : ℕ} → ancestorBy o ≡ ancestor.Root x n → n ≤ 1024
+unfolding ancestorBy
+by-links t id none e h = let z : _≡_ {A = ℕ} 0 1 = cc in absurd (omega arith)
+by-links t id (some r) e {x} {n} h = let q : r .1 ≡ n = cc in omega (arith, few-links t id e)
+
+pub ancestor-links : (o : Outcome) (id : ℕ) {x n : ℕ} → ancestorOf o id ≡ ancestor.Root x n → n ≤ 1024
+unfolding ancestorOf
+ancestor-links (Outcome.accepted b) id e = by-links (parentsOf b) id (rootOf (parentsOf b) id) refl e
+ancestor-links (Outcome.refused m p) id e = let z : _≡_ {A = ℕ} 0 1 = cc in absurd (omega arith)
+
+not-refused : (o : Option (ℕ × ℕ)) {m p : ℕ} {A : Type 0} → ancestorBy o ≡ ancestor.Refused m p → A
+unfolding ancestorBy
+not-refused none e = let z : _≡_ {A = ℕ} 0 1 = cc in absurd (omega arith)
+not-refused (some r) e = let z : _≡_ {A = ℕ} 0 1 = cc in absurd (omega arith)
+
+ancestor-refused : (o : Outcome) (id : ℕ) {m p : ℕ} → ancestorOf o id ≡ ancestor.Refused m p → o ≡ Outcome.refused m p
+unfolding ancestorOf
+ancestor-refused (Outcome.accepted b) id e = not-refused (rootOf (parentsOf b) id) e
+ancestor-refused (Outcome.refused m p) id e = cc
+
+pub ancestor-bounds : (s : List ℕ) (id : ℕ) {m p : ℕ} → ancestorOf (parse s) id ≡ ancestor.Refused m p → (m ≤ 8) × (p ≤ 1048576)
+ancestor-bounds s id e = refused-bounds s (ancestor-refused (parse s) id e)
+
+-- the answers of the availability question
+gone-refused : (b : Bool) {m p : ℕ} {A : Type 0} → availabilityBy b ≡ availability.Refused m p → A
+unfolding availabilityBy
+gone-refused true e = let z : _≡_ {A = ℕ} 0 1 = cc in absurd (omega arith)
+gone-refused false e = let z : _≡_ {A = ℕ} 0 1 = cc in absurd (omega arith)
+
+available-refused : (o : Outcome) (id : ℕ) {m p : ℕ} → availabilityOf o id ≡ availability.Refused m p → o ≡ Outcome.refused m p
+unfolding availabilityOf
+available-refused (Outcome.accepted b) id e = gone-refused _ e
+available-refused (Outcome.refused m p) id e = cc
+
+pub available-bounds : (s : List ℕ) (id : ℕ) {m p : ℕ} → availabilityOf (parse s) id ≡ availability.Refused m p → (m ≤ 8) × (p ≤ 1048576)
+available-bounds s id e = refused-bounds s (available-refused (parse s) id e)
+
+-- the first i words are zero, and the others as they were
+pub zeroed-start : (w : List ℕ) → w ≡ replicate 0 0 ++ drop 0 w
+zeroed-start w = refl
+
+pub zeroed-more : (w : List ℕ) (i : ℕ) {v : List ℕ} → v ≡ replicate i 0 ++ drop i w → i < length w → set v i 0 ≡ replicate (i + 1) 0 ++ drop (i + 1) w
+zeroed-more w i e h =
+    rw (e, drop-at w i 0 h)
+    (set-at (replicate i 0) (getD w i 0) (drop (i + 1) w) 0 i (length-replicate i 0)
+    ∙ sym (append-assoc (replicate i 0) (0 ∷ []) (drop (i + 1) w))
+    ∙ ap (λ (l : List ℕ). l ++ drop (i + 1) w) (replicate-append-replicate i 1 0))
+
+pub zeroed-all : (w : List ℕ) (i : ℕ) {v : List ℕ} → v ≡ replicate i 0 ++ drop i w → length w ≤ i → i ≤ length w → v ≡ replicate (length w) 0
+zeroed-all w i e h k =
+    let same : i ≡ length w = omega arith in
+    rw (e, drop-past w i h, append-nil {A = ℕ} (replicate i 0)) (ap (λ (n : ℕ). replicate n 0) same)
