@@ -20,7 +20,8 @@ use Rattle.pairs.proofs.Words.{pair-first, pair-second}
 use Rattle.book.specs.Book.{Bkey, Book, is, keyHead, keyEnd, keysFrom}
 use Rattle.states.specs.Distance.{snapLive, subvolUnlinked, subvolDeleted}
 use Rattle.states.specs.Subvolumes.{hasSubvolState, subvolState, unavailable, liveSnapshotOf, treeOfSubvolume, subvolumeFindings, subvolumeStates}
-use Rattle.states.specs.Steps.{keyAt, gather, isLiveSnapshot, isTree, statePair, groupFindings, judged}
+use Rattle.walk.specs.Keys.{keyAt, gather}
+use Rattle.states.specs.Steps.{isLiveSnapshot, isTree, statePair, groupFindings, judged}
 use Rattle.states.proofs.Claims.{first-true}
 
 -- ---- a group, pair after pair

@@ -16,10 +16,11 @@ use Rattle.book.specs.declared.KeyFront.{KeyFront}
 use Rattle.book.specs.Book.{Bkey, Book, is, keyEnd, keysFrom}
 use Rattle.states.specs.Distance.{snapLive, snapWillDelete, snapNoKeys, snapDeleted, subvolLive}
 use Rattle.states.specs.Snapshots.{some, hasSnapState, snapState, liveSnapshot, liveSubvolume, accountedId, accounted, liveChild, subvolumeIsLive, snapshotStateFindings, snapshotStates}
-use Rattle.states.specs.Steps.{keyAt, AtKey, gather, isLiveSnapshot}
+use Rattle.walk.specs.Keys.{keyAt, AtKey, gather}
+use Rattle.states.specs.Steps.{isLiveSnapshot}
 use Rattle.states.specs.Sets.{isLiveSubvolume, isAccounted, setPair, willDelete, deleting, setFindings}
 use Rattle.states.proofs.Claims.{first-true}
-use Rattle.states.proofs.Gather.{at-long, long-enough}
+use Rattle.walk.proofs.Gather.{at-long, long-enough}
 use Rattle.states.proofs.Groups.{each-same}
 
 -- ---- pairs of a number and its set
