@@ -1,1 +1,3 @@
 mod Examples
+mod Tables
+mod Covers

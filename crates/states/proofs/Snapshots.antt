@@ -10,8 +10,8 @@ use borrow.Author.Tests.{eq-eqb, ne-eqb, eqb-true}
 use Rattle.bits.specs.Bits.{leAt}
 use Rattle.findings.specs.Findings.{finding, when, only, each, bytesOf}
 use Rattle.pairs.specs.Pairs.{pair, sort, has}
-use Rattle.pairs.proofs.Order.{same-or-not}
 use Rattle.pairs.proofs.Bounds.{has-sort}
+use Rattle.pairs.proofs.Words.{pair-equal}
 use Rattle.book.specs.declared.KeyFront.{KeyFront}
 use Rattle.book.specs.Book.{Bkey, Book, is, keyEnd, keysFrom}
 use Rattle.states.specs.Distance.{snapLive, snapWillDelete, snapNoKeys, snapDeleted, subvolLive}
@@ -25,16 +25,10 @@ use Rattle.states.proofs.Groups.{each-same}
 
 -- ---- pairs of a number and its set
 
-pair-same : (x y t : ℕ) → eqb (pair x t) (pair y t) ≡ eqb y x
-unfolding pair
-pair-same x y t = same-or-not y x
-    (λ e. eq-eqb (pair x t) (pair y t) (rw e) ∙ sym (eq-eqb y x e))
-    (λ d. ne-eqb (pair x t) (pair y t) (λ e. d (omega arith)) ∙ sym (ne-eqb y x d))
-
 -- one pair
 has-same : (x y t : ℕ) → has (pair x t) (pair y t ∷ []) ≡ eqb y x
 unfolding has
-has-same x y t = rw (pair-same x y t) (or-false (eqb y x))
+has-same x y t = rw (pair-equal x y t) (or-false (eqb y x))
   where
     or-false : (b : Bool) → (b || false) ≡ b
     or-false true = refl
