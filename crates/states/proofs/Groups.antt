@@ -10,17 +10,17 @@ use lib.ListN.{length, getD}
 use lib.Dec.{eqb, leb}
 use borrow.Author.Tests.{eq-eqb, ne-eqb, leb-true, eqb-true}
 use Rattle.bits.specs.Bits.{leAt}
-use Rattle.bits.proofs.Laws.{bits-lt}
 use Rattle.findings.specs.Findings.{Finding, finding, when, only, each, Added}
 use Rattle.findings.proofs.Laws.{added-nil, added-as, added-more}
 use Rattle.findings.proofs.Walk.{each-any, each-append}
 use Rattle.pairs.specs.Pairs.{pair, pairAt, pairsOf}
 use Rattle.pairs.proofs.Order.{same-or-not}
 use Rattle.pairs.proofs.Words.{pair-first, pair-second}
-use Rattle.book.specs.Book.{Bkey, Book, is, keyHead, keyEnd, keysFrom}
+use Rattle.book.specs.Book.{Bkey, Book, is, keyEnd, keysFrom}
 use Rattle.states.specs.Distance.{snapLive, subvolUnlinked, subvolDeleted}
 use Rattle.states.specs.Subvolumes.{hasSubvolState, subvolState, unavailable, liveSnapshotOf, treeOfSubvolume, subvolumeFindings, subvolumeStates}
 use Rattle.walk.specs.Keys.{keyAt, gather}
+use Rattle.walk.proofs.Keys.{offset-lt}
 use Rattle.states.specs.Steps.{isLiveSnapshot, isTree, statePair, groupFindings, judged}
 use Rattle.states.proofs.Claims.{first-true}
 
@@ -85,10 +85,6 @@ tree-by g n true true e f d gx gy = absurd (true≢false (d refl))
 tree-by g n true false e f d gx gy = gx
 tree-by g n false true e f d gx gy = gy
 tree-by g n false false e f d gx gy = n
-
-offset-lt : (s : List ℕ) (p : ℕ) → keyAt s p .offset < 2 ^ 64
-unfolding keyHead
-offset-lt s p = bits-lt s (8 * p + 128) 64
 
 -- a live snapshot is no tree record
 not-both : (k : Bkey) → isLiveSnapshot k ≡ true → isTree k ≡ false
