@@ -250,10 +250,18 @@ pub fn bucket_gens_against_alloc(
     ensures few { λ r. ⌜ r ≤ h .keys * 256 + h .gens ⌝ }
 {
     let n = gens_of_keys(book, h, at, out);
-    let m = put_covers(book, h, at, work);
-    pairs::sort_pairs(work, m);
+    let covers = put_covers(book, h, at, work);
+    pairs::sort_pairs(work, covers);
     let from = start_of(out.len(), n);
-    n + show_uncovered(book, at.gens, h.gens as usize, work, m, &mut out[from..])
+    n
+        + show_uncovered(
+            book,
+            at.gens,
+            h.gens as usize,
+            work,
+            covers,
+            &mut out[from..],
+        )
 }
 
 // The greater of two numbers.
@@ -552,8 +560,8 @@ pub fn free_space(book: &[u8], h: Header, at: Places, out: &mut [u8], work: &mut
     ensures few { λ r. ⌜ r ≤ 2 * h .keys + 1 + 2 * h .alloc ⌝ }
 {
     let n = show_runs(book, h, at, out);
-    let m = put_runs(book, h, at, work);
-    pairs::sort_pairs(work, m);
+    let runs = put_runs(book, h, at, work);
+    pairs::sort_pairs(work, runs);
     let rest = start_of(out.len(), n);
-    n + show_gaps(book, h, at, work, m, &mut out[rest..])
+    n + show_gaps(book, h, at, work, runs, &mut out[rest..])
 }
