@@ -1,1 +1,6 @@
 mod Examples
+mod Tables
+mod Covers
+mod Ranges
+mod Runs
+mod Gaps

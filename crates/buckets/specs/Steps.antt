@@ -1,10 +1,82 @@
 -- What only contracts of private functions cite.
-use Prim.Native.Nat.{ℕ}
-use mathlib.Core.List.{List}
-use Rattle.findings.specs.Findings.{Finding, only}
-use Rattle.book.specs.Book.{Bkey}
+use Prim.Native.Nat.{ℕ, _+_, _-_, _*_, _/_, _%_, _^_, _≤_, _<_, max}
+use mathlib.Core.Bool.{Bool, false, cond, not, _&&_, _||_}
+use mathlib.Core.List.{List, [], _∷_, _++_}
+use mathlib.Core.Option.{Option}
+use lib.ListN.{length, getD}
+use lib.Dec.{eqb, ltb}
+use Rattle.findings.specs.Findings.{Finding, finding, when, only, each}
+use Rattle.pairs.specs.Pairs.{pair, has}
+use Rattle.book.specs.declared.Header.{Header}
+use Rattle.book.specs.declared.KeyHead.{KeyHead}
+use Rattle.book.specs.declared.AllocEntry.{AllocEntry}
+use Rattle.book.specs.declared.MaybeU8.{MaybeU8}
+use Rattle.book.specs.declared.MaybeU8.the-variants.{Is, Absent}
+use Rattle.book.specs.Maps.{lowerBound}
+use Rattle.book.specs.Book.{Bkey, Book}
+use Rattle.buckets.specs.declared.Range.{Range}
+use Rattle.buckets.specs.declared.Used.{Used}
 use Rattle.buckets.specs.Gens.{isGens, gensOfKey}
+use Rattle.buckets.specs.FreeSpace.{isRun, runStart, noRun, usedBuckets, firstOr, allocRange, gapFindings}
 
 -- what a key gives, where it is a bucket_gens key of the device
 abbrev pub keyGens : ℕ → List (ℕ × ℕ) → Bkey → List Finding
 keyGens device gens k = only (isGens device k) (gensOfKey gens k)
+
+-- the pair that such a key gives: the offset that it covers, and 0
+unfoldable pub coverPair : ℕ → ℕ → Bkey → List ℕ
+coverPair device p k = cond (isGens device k) (pair (k .offset) 0 ∷ []) []
+
+-- what a bucket's generation gives, where xs are the pairs of the keys
+unfoldable pub notCovered : List ℕ → ℕ → ℕ → List Finding
+notCovered xs bucket generation = when (not (eqb generation 0) && not (has (pair (bucket / 256) 0) xs)) (finding 46 bucket generation)
+
+-- `noRun` by a header and a key's head
+unfoldable pub noRunOf : Header → KeyHead → Bool
+noRunOf h k = ltb (k .offset) (k .size) || (not (eqb (k .inode) (h .device)) || ltb (h .buckets) (k .offset))
+
+-- the pair of start and end that a run gives
+unfoldable pub runPair : Book → ℕ → Bkey → List ℕ
+runPair b p k = cond (isRun k && not (noRun b k)) (pair (max (runStart k) (b .header .«first_bucket»)) (k .offset) ∷ []) []
+
+-- where the entries of an alloc table at byte p stand that are for the buckets from a up to e
+unfoldable pub rangeOf : ℕ → List (ℕ × Option ℕ) → ℕ → ℕ → Range
+rangeOf p alloc a e = record { start = p + lowerBound a alloc * 10; count = lowerBound e alloc - lowerBound a alloc }
+
+-- `inUse` and `isFree` by the enum
+unfoldable pub inUseOf : MaybeU8 → Bool
+inUseOf (Is t) = not (eqb t 0)
+inUseOf Absent = false
+
+unfoldable pub isFreeOf : MaybeU8 → Bool
+isFreeOf (Is t) = eqb t 0
+isFreeOf Absent = false
+
+-- the buckets in use of alloc entries: their number, and the first of them, or d
+unfoldable pub usedOf : ℕ → List (ℕ × Option ℕ) → Used
+usedOf d xs = record { count = length (usedBuckets xs); first = firstOr d (usedBuckets xs) }
+
+-- the same with one entry more in front
+unfoldable pub usedWith : AllocEntry → Used → Used
+usedWith e u = cond (inUseOf (e .«data_type»)) (record { count = u .count + 1; first = e .bucket }) u
+
+-- every bucket is below e
+unfoldable pub Below : ℕ → List (ℕ × Option ℕ) → Type 0
+Below e [] = Unit {0}
+Below e (x ∷ xs) = (x .0 < e) × Below e xs
+
+-- what an entry gives in a gap, of which the buckets up to `at` are passed
+unfoldable pub entryFindings : ℕ → AllocEntry → List Finding
+entryFindings at e = when (ltb at (e .bucket)) (finding 50 at (e .bucket)) ++ when (isFreeOf (e .«data_type»)) (finding 49 (e .bucket) 0)
+
+-- what the buckets from a up to e give, if there are any
+unfoldable pub gapOf : List (ℕ × Option ℕ) → ℕ → ℕ → List Finding
+gapOf alloc a e = only (ltb a e) (gapFindings a (allocRange a e alloc) e)
+
+-- what gaps give
+unfoldable pub gapsFindings : List (ℕ × Option ℕ) → List (ℕ × ℕ) → List Finding
+gapsFindings alloc gs = each (λ _ g. gapFindings (g .0) (allocRange (g .0) (g .1) alloc) (g .1)) 0 gs
+
+-- no pair starts past both its end and the first bucket
+unfoldable pub Fair : ℕ → List ℕ → Type 0
+Fair first ps = (k : ℕ) → k < length ps → getD ps k 0 / 2 ^ 64 ≤ max first (getD ps k 0 % 2 ^ 64)

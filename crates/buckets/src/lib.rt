@@ -1,16 +1,60 @@
-// The rules on buckets. So far: what the bucket_gens keys give (kind 46), the first half of `bucket_gens_against_alloc`.
+// The rules on buckets: `bucket_gens_against_alloc` (kind 46) and `free_space` (kinds 47 to 50).
 ghost use mathlib.Core.Path.{_≡_};
-ghost use Prim.Native.Nat.{_+_, _*_, _^_, _<_, _≤_, min};
+ghost use mathlib.Core.Bool.{cond};
+ghost use mathlib.Core.List.{_++_};
+ghost use Prim.Native.Nat.{_+_, _-_, _*_, _^_, _<_, _≤_, min, max};
 ghost use lib.ListN.{length, take};
-ghost use Rattle.findings.specs.Findings.{Found, Added, each};
-ghost use Rattle.book.specs.Maps.{lookup};
-ghost use Rattle.book.specs.Book.{gensTable, gensFrom, keyHead, keyEnd, keyOf, bookOf};
+ghost use Rattle.findings.specs.Findings.{Found, Added, only, each};
+ghost use Rattle.pairs.specs.Pairs.{pairsOf, Sorted};
+ghost use Rattle.book.specs.Maps.{lookup, lowerBound};
+ghost use Rattle.book.specs.Book.{
+  gensTable,
+  gensFrom,
+  allocTable,
+  allocFrom,
+  entryAt,
+  keyHead,
+  keyEnd,
+  keyOf,
+  bookOf,
+};
 ghost use Rattle.book.specs.Walk.{Opened, Rising};
-ghost use Rattle.buckets.specs.Gens.{orZero, genAt};
-ghost use Rattle.buckets.specs.Steps.{keyGens};
+ghost use Rattle.walk.specs.Keys.{keyAt, AtKey, gather};
+ghost use Rattle.buckets.specs.Gens.{orZero, genAt, bucketGensAgainstAlloc};
+ghost use Rattle.buckets.specs.FreeSpace.{
+  isRun,
+  setFindings,
+  allocRange,
+  usedBuckets,
+  runFindings,
+  gaps,
+  gapFindings,
+  freeSpace,
+};
+ghost use Rattle.buckets.specs.Steps.{
+  keyGens,
+  coverPair,
+  notCovered,
+  noRunOf,
+  runPair,
+  rangeOf,
+  inUseOf,
+  isFreeOf,
+  usedWith,
+  usedOf,
+  Below,
+  entryFindings,
+  gapOf,
+  gapsFindings,
+  Fair,
+};
+use book::AllocEntry;
 use book::Header;
+use book::KeyFront;
+use book::KeyHead;
 use book::MaybeU8;
 use book::Places;
+use findings::emit;
 use findings::emit_if;
 use findings::start_of;
 
@@ -116,4 +160,408 @@ fn gens_of_keys(book: &[u8], h: Header, at: Places, out: &mut [u8]) -> usize
         left -= 1;
     }
     n
+}
+
+// Puts the offset of the key at byte p behind the first n pairs, if it is a bucket_gens key of the device, and returns their number with it.
+fn put_cover(book: &[u8], device: u64, p: usize, f: KeyFront, work: &mut [u64], n: usize) -> usize
+    requires { ⌜ AtKey (now book) p f × (2 * n + 2 ≤ length (now work)) ⌝ }
+    ensures put { λ r. ⌜ pairsOf (now (work .exit)) r ≡ pairsOf (now (work .entry)) n ++ coverPair device p (keyAt (now (book .entry)) p) ⌝ }
+    ensures few { λ r. ⌜ r ≤ n + 1 ⌝ }
+{
+    let inode = walk::key_inode(book, p, f);
+    if (f.btree == 14) & (f.key_type == 30) & (inode == device) {
+        pairs::put_pair(work, n, walk::key_offset(book, p, f), 0);
+        return n + 1;
+    }
+    n
+}
+
+// Puts a pair for each bucket_gens key of the device, and returns their number.
+fn put_covers(book: &[u8], h: Header, at: Places, work: &mut [u64]) -> usize
+    requires { ⌜ Opened (now book) h at × (2 * h .keys ≤ length (now work)) ⌝ }
+    ensures put { λ r. ⌜ pairsOf (now (work .exit)) r ≡ gather (coverPair (h .device)) (now (book .entry)) (h .keys) (at .keys) ⌝ }
+    ensures few { λ r. ⌜ r ≤ h .keys ⌝ }
+{
+    let mut left = h.keys;
+    let mut p = at.keys;
+    let mut n: usize = 0;
+    while 0 < left {
+        let f = book::key_front(book, p);
+        n = put_cover(book, h.device, p, f, work, n);
+        p = p + 28 + f.len;
+        left -= 1;
+    }
+    n
+}
+
+// What the entry of a gens table at byte p gives, where the first m pairs, which are sorted, are the offsets covered; n were found before.
+fn uncovered_at(book: &[u8], p: usize, work: &[u64], m: usize, out: &mut [u8], n: usize) -> usize
+    requires { ⌜ (p + 9 ≤ length (now book)) × (2 * m ≤ length (now work)) × Sorted (pairsOf (now work) m) × (n < 2 ^ 62) ⌝ }
+    ensures found { λ r. ⌜ Added (now (out .entry)) n (notCovered (pairsOf (now (work .entry)) m) (entryAt gensTable (now (book .entry)) p .first) (entryAt gensTable (now (book .entry)) p .rest)) r (now (out .exit)) ⌝ }
+    ensures few { λ r. ⌜ r ≤ n + 1 ⌝ }
+{
+    let bucket = bits::be64(book, p);
+    let generation = bits::byte(book, p + 8);
+    let covered = pairs::has_pair(work, m, bucket / 256, 0);
+    emit_if(
+        out,
+        n,
+        (generation != 0) & !covered,
+        46,
+        bucket,
+        generation as u64,
+    )
+}
+
+// What the `count` entries of a gens table from byte `start` on give, by the first m pairs, which are sorted.
+fn show_uncovered(
+    book: &[u8],
+    start: usize,
+    count: usize,
+    work: &[u64],
+    m: usize,
+    out: &mut [u8],
+) -> usize
+    requires { ⌜ Rising gensTable (now book) start count × (count < 2 ^ 32) × (2 * m ≤ length (now work)) × Sorted (pairsOf (now work) m) ⌝ }
+    ensures found { λ r. ⌜ Found (now (out .entry)) (each (λ _ e. notCovered (pairsOf (now (work .entry)) m) (e .0) (e .1)) 0 (gensFrom (now (book .entry)) count start)) r (now (out .exit)) ⌝ }
+    ensures few { λ r. ⌜ r ≤ count ⌝ }
+{
+    let mut n: usize = 0;
+    let mut left = count;
+    let mut p = start;
+    while 0 < left {
+        n = uncovered_at(book, p, work, m, out, n);
+        p += 9;
+        left -= 1;
+    }
+    n
+}
+
+// The findings of generations that differ: by the bucket_gens keys, then by the gens table where no key covers a bucket.
+pub fn bucket_gens_against_alloc(
+    book: &[u8],
+    h: Header,
+    at: Places,
+    out: &mut [u8],
+    work: &mut [u64],
+) -> usize
+    requires { ⌜ Opened (now book) h at × (2 * h .keys ≤ length (now work)) ⌝ }
+    ensures found { λ r. ⌜ Found (now (out .entry)) (bucketGensAgainstAlloc (bookOf (now (book .entry)))) r (now (out .exit)) ⌝ }
+    ensures few { λ r. ⌜ r ≤ h .keys * 256 + h .gens ⌝ }
+{
+    let n = gens_of_keys(book, h, at, out);
+    let covers = put_covers(book, h, at, work);
+    pairs::sort_pairs(work, covers);
+    let from = start_of(out.len(), n);
+    n
+        + show_uncovered(
+            book,
+            at.gens,
+            h.gens as usize,
+            work,
+            covers,
+            &mut out[from..],
+        )
+}
+
+// The greater of two numbers.
+fn most(a: u64, b: u64) -> u64
+    ensures { λ r. ⌜ r ≡ max a b ⌝ }
+{
+    if a < b { b } else { a }
+}
+
+// The first of two numbers if the test holds, else the second.
+fn choose(test: bool, a: u64, b: u64) -> u64
+    ensures { λ r. ⌜ r ≡ cond test a b ⌝ }
+{
+    if test { a } else { b }
+}
+
+// Whether a key gives no run of the device: it starts before bucket 0, is on another device, or ends past the device's buckets.
+fn no_run(h: Header, k: KeyHead) -> bool
+    ensures { λ r. ⌜ r ≡ noRunOf h k ⌝ }
+{
+    (k.offset < (k.size as u64)) | ((k.inode != h.device) | (h.buckets < k.offset))
+}
+
+// Puts the start and the end of the run at byte p behind the first n pairs, if the key there is one, and returns their number with it.
+fn put_run(book: &[u8], h: Header, p: usize, work: &mut [u64], n: usize) -> usize
+    requires { ⌜ (length (now book) ≤ 1048576) × (p + 28 ≤ length (now book)) × (bookOf (now book) .header ≡ h) × (2 * n + 2 ≤ length (now work)) ⌝ }
+    ensures put { λ r. ⌜ pairsOf (now (work .exit)) r ≡ pairsOf (now (work .entry)) n ++ runPair (bookOf (now (book .entry))) p (keyAt (now (book .entry)) p) ⌝ }
+    ensures few { λ r. ⌜ r ≤ n + 1 ⌝ }
+{
+    let k = book::key_head(book, p);
+    let none = no_run(h, k);
+    if ((k.btree == 11) & (k.key_type == 25)) & !none {
+        let start = most(k.offset - (k.size as u64), h.first_bucket as u64);
+        pairs::put_pair(work, n, start, k.offset);
+        return n + 1;
+    }
+    n
+}
+
+// Puts a pair for each run, runs of size 0 too, and returns their number.
+fn put_runs(book: &[u8], h: Header, at: Places, work: &mut [u64]) -> usize
+    requires { ⌜ Opened (now book) h at × (2 * h .keys ≤ length (now work)) ⌝ }
+    ensures put { λ r. ⌜ pairsOf (now (work .exit)) r ≡ gather (runPair (bookOf (now (book .entry)))) (now (book .entry)) (h .keys) (at .keys) ⌝ }
+    ensures few { λ r. ⌜ r ≤ h .keys ⌝ }
+{
+    let mut left = h.keys;
+    let mut p = at.keys;
+    let mut n: usize = 0;
+    while 0 < left {
+        let f = book::key_front(book, p);
+        n = put_run(book, h, p, work, n);
+        p = p + 28 + f.len;
+        left -= 1;
+    }
+    n
+}
+
+// Entries of an alloc table: the byte where the first of them starts, and their number.
+struct Range {
+    start: usize,
+    count: usize,
+}
+
+// The entries of an alloc table for the buckets from `from` up to `to`.
+fn alloc_range(book: &[u8], start: usize, count: usize, from: u64, to: u64) -> Range
+    requires { ⌜ Rising allocTable (now book) start count × (length (now book) ≤ 1048576) × (from ≤ to) ⌝ }
+    ensures { λ r. ⌜ r ≡ rangeOf start (allocFrom (now (book .entry)) count start) from to ⌝ }
+{
+    let low = book::alloc_from(book, start, count, from);
+    let high = book::alloc_from(book, start, count, to);
+    Range {
+        start: start + low * 10,
+        count: high - low,
+    }
+}
+
+// Whether a data type says that its bucket is in use.
+fn in_use(t: MaybeU8) -> bool
+    ensures { λ r. ⌜ r ≡ inUseOf t ⌝ }
+{
+    match t {
+        MaybeU8::Is(x) => x != 0,
+        MaybeU8::Absent => false,
+    }
+}
+
+// Whether a data type says that its bucket is free.
+fn is_free(t: MaybeU8) -> bool
+    ensures { λ r. ⌜ r ≡ isFreeOf t ⌝ }
+{
+    match t {
+        MaybeU8::Is(x) => x == 0,
+        MaybeU8::Absent => false,
+    }
+}
+
+// The buckets in use of some alloc entries: their number, and the first of them.
+struct Used {
+    count: u64,
+    first: u64,
+}
+
+// Those of the entry e and the entries after it, which give u.
+fn with_entry(e: AllocEntry, u: Used) -> Used
+    requires { ⌜ u .count < 2 ^ 32 ⌝ }
+    ensures used { λ r. ⌜ r ≡ usedWith e u ⌝ }
+    ensures few { λ r. ⌜ r .count ≤ u .count + 1 ⌝ }
+{
+    let data_type = e.data_type;
+    if in_use(data_type) {
+        return Used {
+            count: u.count + 1,
+            first: e.bucket,
+        };
+    }
+    u
+}
+
+// Those of the `count` alloc entries from byte `start` on, where the first is `none` if there is none.
+fn used_among(book: &[u8], start: usize, count: usize, none: u64) -> Used
+    requires { ⌜ (length (now book) ≤ 1048576) × (start + count * 10 ≤ length (now book)) ⌝ }
+    ensures used { λ r. ⌜ r ≡ usedOf none (allocFrom (now (book .entry)) count start) ⌝ }
+    ensures few { λ r. ⌜ r .count ≤ count ⌝ }
+{
+    let mut u = Used {
+        count: 0,
+        first: none,
+    };
+    let mut left = count;
+    while 0 < left {
+        left -= 1;
+        let e = book::alloc_entry(book, start + left * 10);
+        u = with_entry(e, u);
+    }
+    u
+}
+
+// What the buckets of a run from `start` up to `end` give, after n findings.
+fn show_set(
+    book: &[u8],
+    h: Header,
+    at: Places,
+    start: u64,
+    end: u64,
+    out: &mut [u8],
+    n: usize,
+) -> usize
+    requires { ⌜ Opened (now book) h at × (start ≤ end) × (n < 2 ^ 62) ⌝ }
+    ensures found { λ r. ⌜ Added (now (out .entry)) n (setFindings (h .«first_bucket») start (usedBuckets (allocRange start end (bookOf (now (book .entry)) .alloc)))) r (now (out .exit)) ⌝ }
+    ensures few { λ r. ⌜ r ≤ n + 1 ⌝ }
+{
+    let range = alloc_range(book, at.alloc, h.alloc as usize, start, end);
+    let used = used_among(book, range.start, range.count, start);
+    let early = start < (h.first_bucket as u64);
+    let named = choose(early, start, used.first);
+    let more = choose(early, 1, 0);
+    emit_if(
+        out,
+        n,
+        early | (0 < used.count),
+        48,
+        named,
+        used.count + more,
+    )
+}
+
+// What the run with the head k gives, after n findings.
+fn show_run(book: &[u8], h: Header, at: Places, k: KeyHead, out: &mut [u8], n: usize) -> usize
+    requires { ⌜ Opened (now book) h at × (n < 2 ^ 62) ⌝ }
+    ensures found { λ r. ⌜ Added (now (out .entry)) n (runFindings (bookOf (now (book .entry))) (keyOf (now (book .entry)) k)) r (now (out .exit)) ⌝ }
+    ensures few { λ r. ⌜ r ≤ n + 1 ⌝ }
+{
+    let size = k.size as u64;
+    if no_run(h, k) {
+        return emit(out, n, 47, k.offset, size);
+    }
+    show_set(book, h, at, k.offset - size, k.offset, out, n)
+}
+
+// What the key at byte p gives, if it is a run, after n findings.
+fn run_at(book: &[u8], h: Header, at: Places, p: usize, out: &mut [u8], n: usize) -> usize
+    requires { ⌜ Opened (now book) h at × (p + 28 ≤ length (now book)) × (n < 2 ^ 62) ⌝ }
+    ensures found { λ r. ⌜ Added (now (out .entry)) n (only (isRun (keyAt (now (book .entry)) p)) (runFindings (bookOf (now (book .entry))) (keyAt (now (book .entry)) p))) r (now (out .exit)) ⌝ }
+    ensures few { λ r. ⌜ r ≤ n + 1 ⌝ }
+{
+    let k = book::key_head(book, p);
+    if (k.btree == 11) & (k.key_type == 25) {
+        return show_run(book, h, at, k, out, n);
+    }
+    n
+}
+
+// What the runs give.
+fn show_runs(book: &[u8], h: Header, at: Places, out: &mut [u8]) -> usize
+    requires { ⌜ Opened (now book) h at ⌝ }
+    ensures found { λ r. ⌜ Found (now (out .entry)) (each (λ _ k. only (isRun k) (runFindings (bookOf (now (book .entry))) k)) 0 (bookOf (now (book .entry)) .keys)) r (now (out .exit)) ⌝ }
+    ensures few { λ r. ⌜ r ≤ h .keys ⌝ }
+{
+    let mut n: usize = 0;
+    let mut left = h.keys;
+    let mut p = at.keys;
+    while 0 < left {
+        n = run_at(book, h, at, p, out, n);
+        let front = book::key_front(book, p);
+        p = p + 28 + front.len;
+        left -= 1;
+    }
+    n
+}
+
+// What the alloc entry e gives in a gap of which the buckets up to `at` are passed, after n findings.
+fn show_entry(e: AllocEntry, at: u64, out: &mut [u8], n: usize) -> usize
+    requires { ⌜ n < 2 ^ 62 ⌝ }
+    ensures found { λ r. ⌜ Added (now (out .entry)) n (entryFindings at e) r (now (out .exit)) ⌝ }
+    ensures few { λ r. ⌜ r ≤ n + 2 ⌝ }
+{
+    let data_type = e.data_type;
+    let free = is_free(data_type);
+    let m = emit_if(out, n, at < e.bucket, 50, at, e.bucket);
+    emit_if(out, m, free, 49, e.bucket, 0)
+}
+
+// What a gap from `from` up to `to` gives, whose alloc entries are the `count` ones from byte `start` on.
+fn show_entries(
+    book: &[u8],
+    start: usize,
+    count: usize,
+    from: u64,
+    to: u64,
+    out: &mut [u8],
+) -> usize
+    requires { ⌜ (length (now book) ≤ 1048576) × (start + count * 10 ≤ length (now book)) × Below to (allocFrom (now book) count start) ⌝ }
+    ensures found { λ r. ⌜ Found (now (out .entry)) (gapFindings from (allocFrom (now (book .entry)) count start) to) r (now (out .exit)) ⌝ }
+    ensures few { λ r. ⌜ r ≤ 1 + 2 * count ⌝ }
+{
+    let mut n: usize = 0;
+    let mut at = from;
+    let mut left = count;
+    let mut p = start;
+    while 0 < left {
+        let e = book::alloc_entry(book, p);
+        n = show_entry(e, at, out, n);
+        at = e.bucket + 1;
+        p += 10;
+        left -= 1;
+    }
+    emit_if(out, n, at < to, 50, at, to)
+}
+
+// What the buckets from `from` up to `to`, which no run holds, give after n findings: nothing if there are none.
+fn show_gap(
+    book: &[u8],
+    h: Header,
+    at: Places,
+    from: u64,
+    to: u64,
+    out: &mut [u8],
+    n: usize,
+) -> usize
+    requires { ⌜ Opened (now book) h at × (n < 2 ^ 62) ⌝ }
+    ensures found { λ r. ⌜ Added (now (out .entry)) n (gapOf (bookOf (now (book .entry)) .alloc) from to) r (now (out .exit)) ⌝ }
+    ensures few { λ r. ⌜ r ≤ n + 1 + 2 * (lowerBound to (bookOf (now (book .entry)) .alloc) - lowerBound from (bookOf (now (book .entry)) .alloc)) ⌝ }
+{
+    if from < to {
+        let range = alloc_range(book, at.alloc, h.alloc as usize, from, to);
+        let rest = start_of(out.len(), n);
+        return n + show_entries(book, range.start, range.count, from, to, &mut out[rest..]);
+    }
+    n
+}
+
+// What the gaps between the runs give: the first m pairs, which are sorted.
+fn show_gaps(book: &[u8], h: Header, at: Places, work: &[u64], m: usize, out: &mut [u8]) -> usize
+    requires { ⌜ Opened (now book) h at × (m ≤ h .keys) × (2 * m ≤ length (now work)) × Fair (h .«first_bucket») (pairsOf (now work) m) ⌝ }
+    ensures found { λ r. ⌜ Found (now (out .entry)) (gapsFindings (bookOf (now (book .entry)) .alloc) (gaps (h .«first_bucket») (pairsOf (now (work .entry)) m) (h .buckets))) r (now (out .exit)) ⌝ }
+    ensures few { λ r. ⌜ r ≤ h .keys + 1 + 2 * h .alloc ⌝ }
+{
+    let mut n: usize = 0;
+    let mut from = h.first_bucket as u64;
+    let mut i: usize = 0;
+    while i < m {
+        let q = 2 * i;
+        let start = work[q];
+        let end = work[q + 1];
+        n = show_gap(book, h, at, from, start, out, n);
+        from = most(from, end);
+        i += 1;
+    }
+    show_gap(book, h, at, from, h.buckets, out, n)
+}
+
+// The findings of runs of free buckets, then of the gaps between them.
+pub fn free_space(book: &[u8], h: Header, at: Places, out: &mut [u8], work: &mut [u64]) -> usize
+    requires { ⌜ Opened (now book) h at × (2 * h .keys ≤ length (now work)) ⌝ }
+    ensures found { λ r. ⌜ Found (now (out .entry)) (freeSpace (bookOf (now (book .entry)))) r (now (out .exit)) ⌝ }
+    ensures few { λ r. ⌜ r ≤ 2 * h .keys + 1 + 2 * h .alloc ⌝ }
+{
+    let n = show_runs(book, h, at, out);
+    let runs = put_runs(book, h, at, work);
+    pairs::sort_pairs(work, runs);
+    let rest = start_of(out.len(), n);
+    n + show_gaps(book, h, at, work, runs, &mut out[rest..])
 }

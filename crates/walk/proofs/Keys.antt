@@ -1,15 +1,17 @@
 -- The turn of a rule's walk over the keys of a book, by the step of the book and the turn of the findings.
-use Prim.Native.Nat.{ℕ, _+_, _-_, _≤_, _<_}
+use Prim.Native.Nat.{ℕ, _+_, _-_, _*_, _^_, _≤_, _<_}
 use mathlib.Core.Path.{_≡_, refl}
 use mathlib.Core.List.{List, []}
 use native.Mathlib.Omega.{arith}
 use lib.ListN.{length}
+use Rattle.bits.proofs.Laws.{bits-lt}
 use Rattle.findings.specs.Findings.{Finding, Added, each}
 use Rattle.findings.proofs.Walk.{rule, Begun, turn, each-cons, each-next}
 use Rattle.book.specs.declared.KeyFront.{KeyFront}
 use Rattle.book.specs.Book.{Bkey, keyHead, keyEnd, keyOf, keysFrom}
 use Rattle.book.specs.Walk.{KeysFit, frontOf}
 use Rattle.book.proofs.Walk.{step, no-keys, front-end}
+use Rattle.walk.specs.Keys.{keyAt}
 
 -- past the last key there is none
 pub keys-none : (s : List ℕ) (n p : ℕ) → n ≤ 0 → keysFrom s n p ≡ []
@@ -24,6 +26,11 @@ value-fits s n p h fit = step s n p h fit .value
 
 pub rest-fits : (s : List ℕ) (n p : ℕ) {f : KeyFront} → 0 < n → f ≡ frontOf (keyHead s p) → KeysFit s n p → KeysFit s (n - 1) (p + 28 + f .len)
 rest-fits s n p h e fit = rw (front-end s p e) (step s n p h fit .rest)
+
+-- an offset has 64 bits
+pub offset-lt : (s : List ℕ) (p : ℕ) → keyAt s p .offset < 2 ^ 64
+unfolding keyHead
+offset-lt s p = bits-lt s (8 * p + 128) 64
 
 -- a turn of a rule's walk over the keys, and the same where the rule ignores the index
 module _ {all : List Finding} {o o₁ o₂ : List ℕ} {n r : ℕ} where

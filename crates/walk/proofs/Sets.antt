@@ -7,7 +7,7 @@ use native.Mathlib.Omega.{arith}
 use lib.Dec.{eqb}
 use borrow.Author.Tests.{eq-eqb, ne-eqb, eqb-true}
 use Rattle.pairs.specs.Pairs.{pair, has}
-use Rattle.pairs.proofs.Order.{same-or-not}
+use Rattle.pairs.proofs.Words.{pair-equal}
 use Rattle.book.specs.Book.{Bkey, is, keyEnd, keysFrom}
 use Rattle.walk.specs.Keys.{keyAt, gather, anyKey}
 
@@ -23,16 +23,10 @@ aside true false true = refl
 aside true false false = refl
 
 -- pairs of a number and its set
-pub pair-same : (x y t : ℕ) → eqb (pair x t) (pair y t) ≡ eqb y x
-unfolding pair
-pair-same x y t = same-or-not y x
-    (λ e. eq-eqb (pair x t) (pair y t) (rw e) ∙ sym (eq-eqb y x e))
-    (λ d. ne-eqb (pair x t) (pair y t) (λ e. d (omega arith)) ∙ sym (ne-eqb y x d))
-
 -- one pair
 pub has-same : (x y t : ℕ) → has (pair x t) (pair y t ∷ []) ≡ eqb y x
 unfolding has
-has-same x y t = rw (pair-same x y t) (or-false (eqb y x))
+has-same x y t = rw (pair-equal x y t) (or-false (eqb y x))
   where
     or-false : (b : Bool) → (b || false) ≡ b
     or-false true = refl

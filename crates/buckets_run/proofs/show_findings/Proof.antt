@@ -1,0 +1,25 @@
+-- `buckets_run::show_findings` ends: at most 240 findings are shown.
+use Prim.Native.Nat.{_-_}
+use borrow.Author.Needs.{needs}
+use Rattle.buckets_run.proofs.show_findings.Statement.{statement}
+use Rattle.buckets_run.proofs.show_findings.Tie as tie
+
+abbrev Inv-loop : tie.InvT-loop
+Inv-loop out count k₀ k = Unit {0}
+
+abbrev μ-loop : tie.MeasureT-loop
+μ-loop out count k₀ k = 240 - k
+
+pub show-findings-spec : {M : Type 1} → statement M
+show-findings-spec =
+    tie.close
+    (tie.spec
+    Inv-loop
+    μ-loop
+    (λ c. search needs)
+    (λ c. search needs)
+    (λ c κs. search needs)
+    (λ c. search needs)
+    (λ c. search needs)
+    (λ c. search needs)
+    (λ c. search needs))
