@@ -6,7 +6,7 @@ ghost use Rattle.findings.specs.Findings.{Found, each};
 ghost use Rattle.book.specs.Book.{bkey, bookOf};
 ghost use Rattle.book.specs.Walk.{Opened};
 ghost use Rattle.rules.specs.Rules.{keyFindings};
-ghost use Rattle.judge.specs.Steps.{keyRules, stateRules};
+ghost use Rattle.judge.specs.Steps.{keyRules, stateRules, bucketRules};
 use book::Header;
 use book::KeyHead;
 use book::Places;
@@ -67,4 +67,15 @@ fn judge_states(book: &[u8], h: Header, at: Places, out: &mut [u8], work: &mut [
     let b = a + states::snapshot_claims(book, h, at, &mut out[from..], work);
     let from = start_of(out.len(), b);
     b + states::snapshot_states(book, h, at, &mut out[from..], work)
+}
+
+// The rules on buckets.
+fn judge_buckets(book: &[u8], h: Header, at: Places, out: &mut [u8], work: &mut [u64]) -> usize
+    requires { ⌜ Opened (now book) h at × (2 * h .keys ≤ length (now work)) ⌝ }
+    ensures found { λ r. ⌜ Found (now (out .entry)) (bucketRules (bookOf (now (book .entry)))) r (now (out .exit)) ⌝ }
+    ensures few { λ r. ⌜ r ≤ h .keys * 258 + 196608 ⌝ }
+{
+    let n = buckets::bucket_gens_against_alloc(book, h, at, out, work);
+    let from = start_of(out.len(), n);
+    n + buckets::free_space(book, h, at, &mut out[from..], work)
 }
