@@ -20,7 +20,7 @@ chainVia more none = []
 chainVia more (some zero) = []
 chainVia more (some (suc p)) = suc p ∷ more (suc p)
 
--- the ids that at most n links from `at` pass, repeats included: `above` has the same ids, each once
+-- the ids that at most n links from `at` pass, repeats included: those of `above`, and on a ring the snapshot itself and each id again
 unfoldable pub chain : List (ℕ × ℕ) → ℕ → ℕ → List ℕ
 chain parents at zero = []
 chain parents at (suc n) = chainVia (λ p. chain parents p n) (lookup at parents)
