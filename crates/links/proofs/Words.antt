@@ -9,7 +9,7 @@ use lib.ListN.{length, take}
 use lib.Dec.{eqb}
 use borrow.Author.Tests.{eq-eqb}
 use Rattle.bits.specs.Bits.{leAt}
-use Rattle.findings.specs.Findings.{finding, when, only, each, keep}
+use Rattle.findings.specs.Findings.{Finding, Found, finding, when, only, each, keep}
 use Rattle.pairs.specs.Pairs.{has}
 use Rattle.pairs.proofs.Order.{same-or-not}
 use Rattle.book.specs.declared.Header.{Header}
@@ -124,6 +124,10 @@ pub tree-shown : (b : Book) (e : ℕ × (ℕ × ℕ)) {id subvolume root : ℕ} 
     → when (not back) (finding 39 id root) ++ masterFindings (treeOfMap b) id subvolume (lookup subvolume (b .subvolumes)) ≡ treeFindings b e
 unfolding treeFindings
 tree-shown b e {root = root} i v t m back = rw (back, m, word-back (lookup root (treeOfMap b)), i, v, t)
+
+-- the same findings, said otherwise
+pub found-as : {o o′ : List ℕ} {r : ℕ} {fs gs : List Finding} → fs ≡ gs → Found o fs r o′ → Found o gs r o′
+found-as e h = rw e at h
 
 -- ---- the mark
 
