@@ -1,1 +1,493 @@
 // The rule on the links between snapshots and their trees.
+ghost use mathlib.Core.Path.{_≡_};
+ghost use mathlib.Core.List.{[], _∷_, _++_};
+ghost use mathlib.Core.Bool.{cond};
+ghost use Prim.Native.Nat.{_+_, _*_, _%_, _^_, _<_, _≤_};
+ghost use lib.ListN.{length, take, drop, getD};
+ghost use Rattle.findings.specs.Findings.{finding, only, each, keep, Found, Added};
+ghost use Rattle.pairs.specs.Pairs.{pairsOf};
+ghost use Rattle.book.specs.Maps.{lookup};
+ghost use Rattle.book.specs.Book.{bookOf, parentsOf};
+ghost use Rattle.book.specs.Walk.{Opened, maybeU32};
+ghost use Rattle.walk.specs.Keys.{keyAt, AtKey, gather};
+ghost use Rattle.maps.specs.Places.{placePair};
+ghost use Rattle.maps.specs.Sorted.{lastAt};
+ghost use Rattle.snapshots.specs.Words.{holds, subvolumeWord, treeWord, skipWords, idOf};
+ghost use Rattle.links.specs.Links.{
+  treeMap,
+  treeOfMap,
+  isThe,
+  isOther,
+  masterFindings,
+  treeFindings,
+  wrongDepth,
+  badChild,
+  badSkip,
+  rootFindings,
+  backrefFindings,
+  childFindings,
+  skipFindings,
+  linkFindings,
+  snapshotLinks,
+};
+ghost use Rattle.links.specs.Steps.{wordIn, rootIn, rootNamed, sameRoot, linkPair, treeAt, Ready};
+use book::Header;
+use book::KeyFront;
+use book::MaybeU32;
+use book::Places;
+use findings::emit;
+use findings::emit_if;
+use pairs::MaybeU64;
+use parents::Root;
+
+// The id of the key at byte p: the low 32 bits of its offset.
+fn key_id(book: &[u8], p: usize, f: KeyFront) -> u32
+    requires { ⌜ AtKey (now book) p f ⌝ }
+    ensures { λ r. ⌜ r ≡ idOf (keyAt (now (book .entry)) p) ⌝ }
+{
+    let offset = walk::key_offset(book, p, f);
+    (offset % 0x1_0000_0000) as u32
+}
+
+// Whether a word is there and is x.
+fn is_the(word: MaybeU32, x: u32) -> bool
+    ensures { λ r. ⌜ r ≡ isThe x (wordIn word) ⌝ }
+{
+    match word {
+        MaybeU32::Is(y) => y == x,
+        MaybeU32::Absent => false,
+    }
+}
+
+// Whether a word is there and is not x.
+fn is_other(word: MaybeU32, x: u32) -> bool
+    ensures { λ r. ⌜ r ≡ isOther x (wordIn word) ⌝ }
+{
+    match word {
+        MaybeU32::Is(y) => y != x,
+        MaybeU32::Absent => false,
+    }
+}
+
+// Whether a root is there and the word is its id.
+fn same_root(word: MaybeU32, root: Root) -> bool
+    ensures { λ r. ⌜ r ≡ sameRoot (wordIn word) (rootIn root) ⌝ }
+{
+    match root {
+        Root::At { root: id, links: _ } => is_the(word, id),
+        Root::NoRoot => false,
+    }
+}
+
+// Whether a root is there and the depth is not the number of links to it.
+fn wrong_depth(depth: u32, root: Root) -> bool
+    ensures { λ r. ⌜ r ≡ wrongDepth depth (rootIn root) ⌝ }
+{
+    match root {
+        Root::At { root: _, links } => depth != links,
+        Root::NoRoot => false,
+    }
+}
+
+// The snapshot that the subvolumes table has for an id.
+fn snapshot_of(book: &[u8], h: Header, at: Places, id: u32) -> MaybeU32
+    requires { ⌜ Opened (now book) h at ⌝ }
+    ensures { λ r. ⌜ r ≡ maybeU32 (lookup id (bookOf (now (book .entry)) .subvolumes)) ⌝ }
+{
+    book::find_word(book, at.subvolumes, h.subvolumes as usize, id)
+}
+
+// Whether a child is there that does not have this snapshot as its parent.
+fn bad_child(book: &[u8], h: Header, at: Places, id: u32, child: u32) -> bool
+    requires { ⌜ Opened (now book) h at ⌝ }
+    ensures { λ r. ⌜ r ≡ badChild (parentsOf (bookOf (now (book .entry)))) id child ⌝ }
+{
+    let parent = parents::parent_of(book, at.parents, h.parents as usize, child);
+    let own = is_the(parent, id);
+    (child != 0) & !own
+}
+
+// 1 for a skip word that names neither the snapshot nor one of the first len ids, else 0.
+fn count_skip(ids: [u32; 1024], len: usize, id: u32, skip: u32) -> u64
+    requires { ⌜ len ≤ 1024 ⌝ }
+    ensures counted { λ r. ⌜ r ≡ cond (badSkip id (take len ids) skip) 1 0 ⌝ }
+    ensures few { λ r. ⌜ r ≤ 1 ⌝ }
+{
+    let above = parents::contains(ids, len, skip);
+    if (skip != 0) & !((skip == id) | above) {
+        return 1;
+    }
+    0
+}
+
+// How many of the three skip words of the snapshot at byte p are bad.
+fn count_skips(book: &[u8], p: usize, f: KeyFront, ids: [u32; 1024], len: usize, id: u32) -> u64
+    requires { ⌜ AtKey (now book) p f × (40 ≤ f .len) × (len ≤ 1024) ⌝ }
+    ensures { λ r. ⌜ r ≡ length (keep (badSkip id (take len ids)) (skipWords (keyAt (now (book .entry)) p))) ⌝ }
+{
+    let one = count_skip(ids, len, id, walk::key_word(book, p, f, 28));
+    let two = count_skip(ids, len, id, walk::key_word(book, p, f, 32));
+    let three = count_skip(ids, len, id, walk::key_word(book, p, f, 36));
+    one + two + three
+}
+
+// The finding of a snapshot whose subvolume has another snapshot.
+fn show_backref(
+    book: &[u8],
+    h: Header,
+    at: Places,
+    p: usize,
+    f: KeyFront,
+    id: u32,
+    out: &mut [u8],
+    m: usize,
+) -> usize
+    requires { ⌜ Opened (now book) h at × AtKey (now book) p f × (40 ≤ f .len) × (m < 2 ^ 62) ⌝ }
+    ensures added { λ r. ⌜ Added (now (out .entry)) m (backrefFindings (keyAt (now (book .entry)) p) id (lookup (subvolumeWord (keyAt (now (book .entry)) p)) (bookOf (now (book .entry)) .subvolumes))) r (now (out .exit)) ⌝ }
+    ensures few { λ r. ⌜ r ≤ m + 1 ⌝ }
+{
+    let subvolume = walk::key_word(book, p, f, 16);
+    let other = is_other(snapshot_of(book, h, at, subvolume), id);
+    emit_if(out, m, (subvolume != 0) & other, 43, id as u64, subvolume as u64)
+}
+
+// The findings of a snapshot's two children.
+fn show_children(
+    book: &[u8],
+    h: Header,
+    at: Places,
+    p: usize,
+    f: KeyFront,
+    id: u32,
+    out: &mut [u8],
+    m: usize,
+) -> usize
+    requires { ⌜ Opened (now book) h at × AtKey (now book) p f × (40 ≤ f .len) × (m < 2 ^ 62) ⌝ }
+    ensures added { λ r. ⌜ Added (now (out .entry)) m (childFindings (keyAt (now (book .entry)) p) id (parentsOf (bookOf (now (book .entry))))) r (now (out .exit)) ⌝ }
+    ensures few { λ r. ⌜ r ≤ m + 2 ⌝ }
+{
+    let left = walk::key_word(book, p, f, 8);
+    let right = walk::key_word(book, p, f, 12);
+    let one = bad_child(book, h, at, id, left);
+    let other = bad_child(book, h, at, id, right);
+    let found = emit_if(out, m, one, 44, id as u64, left as u64);
+    emit_if(out, found, other, 44, id as u64, right as u64)
+}
+
+// The finding of a snapshot's skip words, by the first len ids.
+fn show_skips(
+    book: &[u8],
+    p: usize,
+    f: KeyFront,
+    id: u32,
+    ids: [u32; 1024],
+    len: usize,
+    out: &mut [u8],
+    m: usize,
+) -> usize
+    requires { ⌜ AtKey (now book) p f × (40 ≤ f .len) × (len ≤ 1024) × (m < 2 ^ 62) ⌝ }
+    ensures added { λ r. ⌜ Added (now (out .entry)) m (skipFindings (keyAt (now (book .entry)) p) id (take len ids)) r (now (out .exit)) ⌝ }
+    ensures few { λ r. ⌜ r ≤ m + 1 ⌝ }
+{
+    let bad = count_skips(book, p, f, ids, len, id);
+    emit_if(out, m, bad != 0, 45, id as u64, bad)
+}
+
+// Puts the pair of the key at byte p in a map behind the first n.
+fn put_place(book: &[u8], p: usize, f: KeyFront, which: u64, work: &mut [u64], n: usize)
+    requires { ⌜ AtKey (now book) p f × (which < 2) × (2 * n + 2 ≤ length (now work)) ⌝ }
+    ensures { λ _. ⌜ pairsOf (now (work .exit)) (n + 1) ≡ pairsOf (now (work .entry)) n ++ (placePair which (idOf (keyAt (now (book .entry)) p)) p ∷ []) ⌝ }
+{
+    let id = key_id(book, p, f);
+    pairs::put_pair(work, n, id as u64, which * 0x1_0000_0000 + p as u64);
+}
+
+// Puts the pair that the key at byte p gives behind the first n, and returns their number with it.
+fn put_link(book: &[u8], p: usize, f: KeyFront, work: &mut [u64], n: usize) -> usize
+    requires { ⌜ AtKey (now book) p f × (2 * n + 2 ≤ length (now work)) ⌝ }
+    ensures put { λ r. ⌜ pairsOf (now (work .exit)) r ≡ pairsOf (now (work .entry)) n ++ linkPair p (keyAt (now (book .entry)) p) ⌝ }
+    ensures few { λ r. ⌜ r ≤ n + 1 ⌝ }
+{
+    if ((f.btree == 15) & (f.key_type == 31)) & (8 <= f.len) {
+        put_place(book, p, f, 0, work, n);
+        return n + 1;
+    }
+    if ((f.btree == 9) & (f.key_type == 22)) & (24 <= f.len) {
+        put_place(book, p, f, 1, work, n);
+        return n + 1;
+    }
+    n
+}
+
+// Puts a pair for each tree record and each snapshot that names a tree, in key order, and returns their number.
+fn put_links(book: &[u8], h: Header, at: Places, work: &mut [u64]) -> usize
+    requires { ⌜ Opened (now book) h at × (2 * h .keys ≤ length (now work)) ⌝ }
+    ensures put { λ r. ⌜ pairsOf (now (work .exit)) r ≡ gather linkPair (now (book .entry)) (h .keys) (at .keys) ⌝ }
+    ensures few { λ r. ⌜ r ≤ h .keys ⌝ }
+{
+    let mut left = h.keys;
+    let mut p = at.keys;
+    let mut n: usize = 0;
+    while 0 < left {
+        let f = book::key_front(book, p);
+        n = put_link(book, p, f, work, n);
+        p = p + 28 + f.len;
+        left -= 1;
+    }
+    n
+}
+
+// The root that the tree record of an id names: the last record of the id, by the first n pairs.
+fn tree_root(book: &[u8], h: Header, at: Places, work: &[u64], n: usize, id: u32) -> MaybeU32
+    requires { ⌜ Ready (now book) h at (now work) n ⌝ }
+    ensures { λ r. ⌜ r ≡ maybeU32 (rootNamed (lookup id (treeMap (bookOf (now (book .entry)))))) ⌝ }
+{
+    match maps::find_place(work, n, 0, id as u64) {
+        MaybeU64::Is(q) => {
+            let p = q as usize;
+            let f = book::key_front(book, p);
+            MaybeU32::Is(walk::key_word(book, p, f, 4))
+        }
+        MaybeU64::Absent => MaybeU32::Absent,
+    }
+}
+
+// The tree that the snapshot of an id names: the last snapshot of the id, by the first n pairs.
+fn tree_of(book: &[u8], h: Header, at: Places, work: &[u64], n: usize, id: u32) -> MaybeU32
+    requires { ⌜ Ready (now book) h at (now work) n ⌝ }
+    ensures { λ r. ⌜ r ≡ maybeU32 (lookup id (treeOfMap (bookOf (now (book .entry))))) ⌝ }
+{
+    match maps::find_place(work, n, 1, id as u64) {
+        MaybeU64::Is(q) => {
+            let p = q as usize;
+            let f = book::key_front(book, p);
+            MaybeU32::Is(walk::key_word(book, p, f, 20))
+        }
+        MaybeU64::Absent => MaybeU32::Absent,
+    }
+}
+
+// The findings of a snapshot's tree word and depth word, by the root above it.
+fn show_root(
+    book: &[u8],
+    h: Header,
+    at: Places,
+    work: &[u64],
+    n: usize,
+    p: usize,
+    f: KeyFront,
+    id: u32,
+    root: Root,
+    out: &mut [u8],
+    m: usize,
+) -> usize
+    requires { ⌜ Ready (now book) h at (now work) n × AtKey (now book) p f × (40 ≤ f .len) × (m < 2 ^ 62) ⌝ }
+    ensures added { λ r. ⌜ Added (now (out .entry)) m (rootFindings (keyAt (now (book .entry)) p) id (lookup (treeWord (keyAt (now (book .entry)) p)) (treeMap (bookOf (now (book .entry))))) (rootIn root)) r (now (out .exit)) ⌝ }
+    ensures few { λ r. ⌜ r ≤ m + 2 ⌝ }
+{
+    let tree = walk::key_word(book, p, f, 20);
+    let depth = walk::key_word(book, p, f, 24);
+    let same = same_root(tree_root(book, h, at, work, n, tree), root);
+    let wrong = wrong_depth(depth, root);
+    let found = emit_if(out, m, !same, 41, id as u64, tree as u64);
+    emit_if(out, found, wrong, 42, id as u64, depth as u64)
+}
+
+// The findings of the snapshot at byte p.
+fn show_links(
+    book: &[u8],
+    h: Header,
+    at: Places,
+    work: &[u64],
+    n: usize,
+    p: usize,
+    f: KeyFront,
+    out: &mut [u8],
+    m: usize,
+) -> usize
+    requires { ⌜ Ready (now book) h at (now work) n × AtKey (now book) p f × (40 ≤ f .len) × (m < 2 ^ 61) ⌝ }
+    ensures added { λ r. ⌜ Added (now (out .entry)) m (linkFindings (bookOf (now (book .entry))) (keyAt (now (book .entry)) p)) r (now (out .exit)) ⌝ }
+    ensures few { λ r. ⌜ r ≤ m + 6 ⌝ }
+{
+    let id = key_id(book, p, f);
+    let above = parents::ancestors_of(book, at.parents, h.parents as usize, id);
+    let root = above.root;
+    let m = show_root(book, h, at, work, n, p, f, id, root, out, m);
+    let m = show_backref(book, h, at, p, f, id, out, m);
+    let m = show_children(book, h, at, p, f, id, out, m);
+    let ids = above.ids;
+    show_skips(book, p, f, id, ids, above.len, out, m)
+}
+
+// The findings of the key at byte p, if it is a snapshot with all its words.
+fn show_snapshot(
+    book: &[u8],
+    h: Header,
+    at: Places,
+    work: &[u64],
+    n: usize,
+    p: usize,
+    f: KeyFront,
+    out: &mut [u8],
+    m: usize,
+) -> usize
+    requires { ⌜ Ready (now book) h at (now work) n × AtKey (now book) p f × (m < 2 ^ 61) ⌝ }
+    ensures added { λ r. ⌜ Added (now (out .entry)) m (only (holds 9 22 40 (keyAt (now (book .entry)) p)) (linkFindings (bookOf (now (book .entry))) (keyAt (now (book .entry)) p))) r (now (out .exit)) ⌝ }
+    ensures few { λ r. ⌜ r ≤ m + 6 ⌝ }
+{
+    if ((f.btree == 9) & (f.key_type == 22)) & (40 <= f.len) {
+        return show_links(book, h, at, work, n, p, f, out, m);
+    }
+    m
+}
+
+// The findings of the snapshots, in key order.
+fn show_snapshots(
+    book: &[u8],
+    h: Header,
+    at: Places,
+    work: &[u64],
+    n: usize,
+    out: &mut [u8],
+) -> usize
+    requires { ⌜ Ready (now book) h at (now work) n ⌝ }
+    ensures found { λ r. ⌜ Found (now (out .entry)) (each (λ _ k. only (holds 9 22 40 k) (linkFindings (bookOf (now (book .entry))) k)) 0 (bookOf (now (book .entry)) .keys)) r (now (out .exit)) ⌝ }
+    ensures few { λ r. ⌜ r ≤ h .keys * 6 ⌝ }
+{
+    let mut found: usize = 0;
+    let mut left = h.keys;
+    let mut p = at.keys;
+    while 0 < left {
+        let f = book::key_front(book, p);
+        found = show_snapshot(book, h, at, work, n, p, f, out, found);
+        p = p + 28 + f.len;
+        left -= 1;
+    }
+    found
+}
+
+// The finding of a tree's subvolume: it is not there, or its snapshot is in another tree.
+fn show_master(
+    book: &[u8],
+    h: Header,
+    at: Places,
+    work: &[u64],
+    n: usize,
+    id: u32,
+    subvolume: u32,
+    out: &mut [u8],
+    m: usize,
+) -> usize
+    requires { ⌜ Ready (now book) h at (now work) n × (m < 2 ^ 62) ⌝ }
+    ensures added { λ r. ⌜ Added (now (out .entry)) m (masterFindings (treeOfMap (bookOf (now (book .entry)))) id subvolume (lookup subvolume (bookOf (now (book .entry)) .subvolumes))) r (now (out .exit)) ⌝ }
+    ensures few { λ r. ⌜ r ≤ m + 1 ⌝ }
+{
+    match snapshot_of(book, h, at, subvolume) {
+        MaybeU32::Is(snap) => {
+            let other = is_other(tree_of(book, h, at, work, n, snap), id);
+            emit_if(out, m, other, 40, id as u64, subvolume as u64)
+        }
+        MaybeU32::Absent => emit(out, m, 31, id as u64, subvolume as u64),
+    }
+}
+
+// The findings of the tree record at byte p.
+fn show_tree(
+    book: &[u8],
+    h: Header,
+    at: Places,
+    work: &[u64],
+    n: usize,
+    p: usize,
+    f: KeyFront,
+    out: &mut [u8],
+    m: usize,
+) -> usize
+    requires { ⌜ Ready (now book) h at (now work) n × AtKey (now book) p f × (8 ≤ f .len) × (m < 2 ^ 61) ⌝ }
+    ensures added { λ r. ⌜ Added (now (out .entry)) m (treeFindings (bookOf (now (book .entry))) (treeAt (now (book .entry)) (idOf (keyAt (now (book .entry)) p), p))) r (now (out .exit)) ⌝ }
+    ensures few { λ r. ⌜ r ≤ m + 2 ⌝ }
+{
+    let id = key_id(book, p, f);
+    let subvolume = walk::key_word(book, p, f, 0);
+    let root = walk::key_word(book, p, f, 4);
+    let back = is_the(tree_of(book, h, at, work, n, root), id);
+    let found = emit_if(out, m, !back, 39, id as u64, root as u64);
+    show_master(book, h, at, work, n, id, subvolume, out, found)
+}
+
+// The findings of pair i, if it is the last tree record of its id.
+fn show_pair(
+    book: &[u8],
+    h: Header,
+    at: Places,
+    work: &[u64],
+    n: usize,
+    i: usize,
+    out: &mut [u8],
+    m: usize,
+) -> usize
+    requires { ⌜ Ready (now book) h at (now work) n × (i < n) × (m < 2 ^ 61) ⌝ }
+    ensures added { λ r. ⌜ Added (now (out .entry)) m (only (lastAt 0 (drop i (pairsOf (now (work .entry)) n))) (treeFindings (bookOf (now (book .entry))) (treeAt (now (book .entry)) (getD (now (work .entry)) (2 * i) 0, getD (now (work .entry)) (2 * i + 1) 0 % 2 ^ 32)))) r (now (out .exit)) ⌝ }
+    ensures few { λ r. ⌜ r ≤ m + 2 ⌝ }
+{
+    if maps::is_last(work, n, i, 0) {
+        let q = 2 * i + 1;
+        let p = (work[q] % 0x1_0000_0000) as usize;
+        let f = book::key_front(book, p);
+        return show_tree(book, h, at, work, n, p, f, out, m);
+    }
+    m
+}
+
+// The findings of the trees, in id order.
+fn show_trees(
+    book: &[u8],
+    h: Header,
+    at: Places,
+    work: &[u64],
+    n: usize,
+    out: &mut [u8],
+) -> usize
+    requires { ⌜ Ready (now book) h at (now work) n ⌝ }
+    ensures found { λ r. ⌜ Found (now (out .entry)) (each (λ _ e. treeFindings (bookOf (now (book .entry))) e) 0 (treeMap (bookOf (now (book .entry))))) r (now (out .exit)) ⌝ }
+    ensures few { λ r. ⌜ r ≤ n * 2 ⌝ }
+{
+    let mut found: usize = 0;
+    let mut i: usize = 0;
+    while i < n {
+        found = show_pair(book, h, at, work, n, i, out, found);
+        i += 1;
+    }
+    found
+}
+
+// The findings of the trees and of the snapshots.
+fn show_all(book: &[u8], h: Header, at: Places, work: &[u64], n: usize, out: &mut [u8]) -> usize
+    requires { ⌜ Ready (now book) h at (now work) n ⌝ }
+    ensures found { λ r. ⌜ Found (now (out .entry)) (each (λ _ e. treeFindings (bookOf (now (book .entry))) e) 0 (treeMap (bookOf (now (book .entry)))) ++ each (λ _ k. only (holds 9 22 40 k) (linkFindings (bookOf (now (book .entry))) k)) 0 (bookOf (now (book .entry)) .keys)) r (now (out .exit)) ⌝ }
+    ensures few { λ r. ⌜ r ≤ h .keys * 8 ⌝ }
+{
+    let trees = show_trees(book, h, at, work, n, out);
+    let from = findings::start_of(out.len(), trees);
+    trees + show_snapshots(book, h, at, work, n, &mut out[from..])
+}
+
+// The findings of links between snapshots and their trees, if the snapshot_trees btree is present.
+pub fn snapshot_links(
+    book: &[u8],
+    h: Header,
+    at: Places,
+    out: &mut [u8],
+    work: &mut [u64],
+) -> usize
+    requires { ⌜ Opened (now book) h at × (2 * h .keys ≤ length (now work)) ⌝ }
+    ensures found { λ r. ⌜ Found (now (out .entry)) (snapshotLinks (bookOf (now (book .entry)))) r (now (out .exit)) ⌝ }
+    ensures few { λ r. ⌜ r ≤ h .keys * 8 ⌝ }
+{
+    if h.trees {
+        let n = put_links(book, h, at, work);
+        pairs::sort_pairs(work, n);
+        return show_all(book, h, at, work, n, out);
+    }
+    0
+}

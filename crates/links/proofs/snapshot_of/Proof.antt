@@ -1,0 +1,13 @@
+-- The table of the book.
+use Rattle.book.proofs.Walk.{parts}
+use borrow.Author.Needs.{needs}
+use Rattle.links.proofs.snapshot_of.Statement.{statement}
+use Rattle.links.proofs.snapshot_of.Tie as tie
+
+pub snapshot-of-spec : {M : Type 1} → statement M
+snapshot-of-spec =
+    tie.close
+    (tie.spec
+    (λ c. search needs)
+    (λ c κs. parts (c .before .before .pre) .subvolumes-rise)
+    (λ c. rw (parts (c .before .before .before .pre) .subvolumes) (c .find-word .ensures)))
