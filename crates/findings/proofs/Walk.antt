@@ -1,5 +1,5 @@
 -- The walk of a rule over its items: the invariant of a rule's loop, and the laws by which it begins, turns and ends. A rule's proof cites the set `rule`.
-use mathlib.Core.Path.{_≡_, refl, sym, ap, _∙_}
+use mathlib.Core.Path.{_≡_, refl, sym, ap, ap₂, _∙_}
 use mathlib.Core.Bool.{Bool, true, false, cond}
 use mathlib.Core.List.{List, [], _∷_, _++_, append-assoc, append-nil}
 use Prim.Native.Nat.{ℕ, zero, suc, _+_, _*_, _≤_, _<_}
@@ -82,6 +82,12 @@ module _ {A : Type 0} (f : A → List Finding) (test : A → Bool) where
   unfolding each keep
   each-keep [] = refl
   each-keep (x ∷ xs) = kept (test x) x (keep test xs) (each-keep xs) ∙ ap (λ (l : List Finding). only (test x) (f x) ++ l) (sym (each-any (λ _ x. only (test x) (f x)) (λ i x. refl) 1 xs))
+
+-- rules that say the same of every item
+pub each-same : {A : Type 0} (f g : A → List Finding) → ((x : A) → f x ≡ g x) → (i : ℕ) (xs : List A) → each (λ _ x. f x) i xs ≡ each (λ _ x. g x) i xs
+unfolding each
+each-same f g h i [] = refl
+each-same f g h i (x ∷ xs) = ap₂ (λ (a b : List Finding). a ++ b) (h x) (each-same f g h (suc i) xs)
 
 -- the items of two lists
 pub each-append : {A : Type 0} (at : ℕ → A → List Finding) (i : ℕ) (xs ys : List A) → each at i (xs ++ ys) ≡ each at i xs ++ each at (i + length xs) ys

@@ -1,8 +1,8 @@
 -- What the code computes of a claimant is what the rule asks of it.
-use Prim.Native.Nat.{ℕ, _+_, _≤_, _<_}
-use mathlib.Core.Path.{_≡_, refl}
-use mathlib.Core.Bool.{Bool, true, false, not, _&&_}
-use mathlib.Core.List.{List, [], _∷_}
+use Prim.Native.Nat.{ℕ, zero, suc, _+_, _≤_, _<_}
+use mathlib.Core.Path.{_≡_, refl, ap}
+use mathlib.Core.Bool.{Bool, true, false, cond, not, _&&_}
+use mathlib.Core.List.{List, [], _∷_, _++_, map}
 use native.Mathlib.Omega.{arith}
 use lib.ListN.{length}
 use lib.Dec.{eqb, leb}
@@ -10,15 +10,13 @@ use borrow.Author.Tests.{le-leb, lt-leb}
 use Rattle.bits.specs.Bits.{leAt}
 use Rattle.pairs.specs.Pairs.{pair}
 use Rattle.book.specs.declared.KeyFront.{KeyFront}
-use Rattle.book.specs.Book.{is}
+use Rattle.book.specs.Book.{is, keyEnd, keysFrom}
 use Rattle.states.specs.Distance.{distance, subvolDeleted}
-use Rattle.states.specs.Subvolumes.{subvolState, claims}
-use Rattle.states.specs.Steps.{keyAt, AtKey, claimPair}
-use Rattle.states.proofs.Gather.{at-length, at-long, long-enough}
-
-pub first-true : (a b : Bool) → a && b ≡ true → a ≡ true
-first-true true b e = refl
-first-true false b e = e
+use Rattle.states.specs.Subvolumes.{subvolState, claims, claimed}
+use Rattle.walk.specs.Keys.{keyAt, AtKey, gather}
+use Rattle.states.specs.Steps.{claimPair}
+use Rattle.walk.proofs.Gather.{at-length, at-long, long-enough}
+use Rattle.walk.proofs.Sets.{first-true}
 
 module _ {s : List ℕ} {p : ℕ} {f : KeyFront} (k : AtKey s p f) where
   pub claims-short : (eqb (f .btree) 8 && eqb (f .«key_type») 21) && leb 8 (f .len) ≡ true → f .len < 44 → true ≡ claims (keyAt s p)
@@ -50,3 +48,14 @@ claim-yes s p e v = rw (e, v)
 pub claim-no : (s : List ℕ) (p : ℕ) → claims (keyAt s p) ≡ false → claimPair p (keyAt s p) ≡ []
 unfolding claimPair
 claim-no s p e = rw e
+
+-- the claims that the walk puts
+
+paired-by : (b : Bool) (x : ℕ) (xs ys : List ℕ) → ys ≡ map (λ y. pair y 0) xs → cond b (pair x 0 ∷ []) [] ++ ys ≡ map (λ y. pair y 0) (cond b (x ∷ xs) xs)
+paired-by true x xs ys e = ap (λ (l : List ℕ). pair x 0 ∷ l) e
+paired-by false x xs ys e = e
+
+pub claims-paired : (s : List ℕ) (n p : ℕ) → gather claimPair s n p ≡ map (λ y. pair y 0) (claimed (keysFrom s n p))
+unfolding gather claimPair claimed keysFrom
+claims-paired s zero p = refl
+claims-paired s (suc n) p = paired-by (claims (keyAt s p)) (leAt (keyAt s p .value) 4 4) (claimed (keysFrom s n (keyEnd s p))) (gather claimPair s n (keyEnd s p)) (claims-paired s n (keyEnd s p))

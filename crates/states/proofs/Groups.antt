@@ -20,8 +20,10 @@ use Rattle.pairs.proofs.Words.{pair-first, pair-second}
 use Rattle.book.specs.Book.{Bkey, Book, is, keyHead, keyEnd, keysFrom}
 use Rattle.states.specs.Distance.{snapLive, subvolUnlinked, subvolDeleted}
 use Rattle.states.specs.Subvolumes.{hasSubvolState, subvolState, unavailable, liveSnapshotOf, treeOfSubvolume, subvolumeFindings, subvolumeStates}
-use Rattle.states.specs.Steps.{keyAt, gather, isLiveSnapshot, isTree, statePair, groupFindings, judged}
-use Rattle.states.proofs.Claims.{first-true}
+use Rattle.walk.specs.Keys.{keyAt, gather}
+use Rattle.states.specs.Steps.{isLiveSnapshot, isTree, statePair, groupFindings, judged}
+use Rattle.walk.proofs.Sets.{first-true}
+use Rattle.findings.proofs.Walk.{each-same}
 
 -- ---- a group, pair after pair
 
@@ -134,11 +136,6 @@ keys-by kind group id of s one (suc n) p =
     ∙ ap₂ (λ (a b : List Finding). a ++ b) (one p) (keys-by kind group id of s one n (keyEnd s p) ∙ sym (each-any (λ _ k. of k) (λ i k. refl) 1 (keysFrom s n (keyEnd s p))))
 
 -- ---- the rule
-
-pub each-same : {A : Type 0} (f g : A → List Finding) → ((x : A) → f x ≡ g x) → (i : ℕ) (xs : List A) → each (λ _ x. f x) i xs ≡ each (λ _ x. g x) i xs
-unfolding each
-each-same f g h i [] = refl
-each-same f g h i (x ∷ xs) = ap₂ (λ (a b : List Finding). a ++ b) (h x) (each-same f g h (suc i) xs)
 
 pub judged-all : (b : Book) (s : List ℕ) (n p : ℕ) {xs : List ℕ} → b .keys ≡ keysFrom s n p → xs ≡ gather statePair s n p → each (λ _ k. judged xs k) 0 (b .keys) ≡ subvolumeStates b
 unfolding judged subvolumeFindings subvolumeStates

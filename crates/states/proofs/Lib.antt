@@ -3,7 +3,6 @@ pub mod Bits
 mod Claims
 mod Counts
 mod Examples
-mod Gather
 mod Groups
 mod Snapshots
 mod States

@@ -10,47 +10,17 @@ use borrow.Author.Tests.{eq-eqb, ne-eqb, eqb-true}
 use Rattle.bits.specs.Bits.{leAt}
 use Rattle.findings.specs.Findings.{finding, when, only, each, bytesOf}
 use Rattle.pairs.specs.Pairs.{pair, sort, has}
-use Rattle.pairs.proofs.Order.{same-or-not}
 use Rattle.pairs.proofs.Bounds.{has-sort}
 use Rattle.book.specs.declared.KeyFront.{KeyFront}
 use Rattle.book.specs.Book.{Bkey, Book, is, keyEnd, keysFrom}
 use Rattle.states.specs.Distance.{snapLive, snapWillDelete, snapNoKeys, snapDeleted, subvolLive}
-use Rattle.states.specs.Snapshots.{some, hasSnapState, snapState, liveSnapshot, liveSubvolume, accountedId, accounted, liveChild, subvolumeIsLive, snapshotStateFindings, snapshotStates}
-use Rattle.states.specs.Steps.{keyAt, AtKey, gather, isLiveSnapshot}
+use Rattle.states.specs.Snapshots.{hasSnapState, snapState, liveSnapshot, liveSubvolume, accountedId, accounted, liveChild, subvolumeIsLive, snapshotStateFindings, snapshotStates}
+use Rattle.walk.specs.Keys.{keyAt, AtKey, gather, anyKey}
+use Rattle.states.specs.Steps.{isLiveSnapshot}
 use Rattle.states.specs.Sets.{isLiveSubvolume, isAccounted, setPair, willDelete, deleting, setFindings}
-use Rattle.states.proofs.Claims.{first-true}
-use Rattle.states.proofs.Gather.{at-long, long-enough}
-use Rattle.states.proofs.Groups.{each-same}
-
--- ---- pairs of a number and its set
-
-pair-same : (x y t : ℕ) → eqb (pair x t) (pair y t) ≡ eqb y x
-unfolding pair
-pair-same x y t = same-or-not y x
-    (λ e. eq-eqb (pair x t) (pair y t) (rw e) ∙ sym (eq-eqb y x e))
-    (λ d. ne-eqb (pair x t) (pair y t) (λ e. d (omega arith)) ∙ sym (ne-eqb y x d))
-
--- one pair
-has-same : (x y t : ℕ) → has (pair x t) (pair y t ∷ []) ≡ eqb y x
-unfolding has
-has-same x y t = rw (pair-same x y t) (or-false (eqb y x))
-  where
-    or-false : (b : Bool) → (b || false) ≡ b
-    or-false true = refl
-    or-false false = refl
-
-has-other : (x y t u : ℕ) → (pair x t ≡ pair y u → ⊥) → has (pair x t) (pair y u ∷ []) ≡ false
-unfolding has
-has-other x y t u d = rw (ne-eqb (pair x t) (pair y u) d)
-
-has-append : (x : ℕ) (xs ys : List ℕ) → has x (xs ++ ys) ≡ has x xs || has x ys
-unfolding has
-has-append x [] ys = refl
-has-append x (y ∷ xs) ys = rw (has-append x xs ys) (or-assoc (eqb x y) (has x xs) (has x ys))
-  where
-    or-assoc : (a b c : Bool) → (a || (b || c)) ≡ ((a || b) || c)
-    or-assoc true b c = refl
-    or-assoc false b c = refl
+use Rattle.walk.proofs.Sets.{first-true, aside, has-nil, has-same, has-other, other-btree, any-by}
+use Rattle.walk.proofs.Gather.{at-long, long-enough}
+use Rattle.findings.proofs.Walk.{each-same}
 
 -- which of a key's three pairs it gives
 module _ (h : List ℕ → Bool) (none : h [] ≡ false) where
@@ -78,22 +48,6 @@ module _ (h : List ℕ → Bool) (none : h [] ≡ false) where
   third-by false false true e d g hx hy hz = hz
   third-by false false false e d g hx hy hz = none
 
-aside : (x m e : Bool) → (x && m) && e ≡ x && (e && m)
-aside false m e = refl
-aside true true true = refl
-aside true true false = refl
-aside true false true = refl
-aside true false false = refl
-
-has-none : (x : ℕ) → has x [] ≡ false
-unfolding has
-has-none x = refl
-
--- keys of two btrees
-other-btree : (k : Bkey) (b t c u : ℕ) → (b ≡ c → ⊥) → is b t k ≡ true → is c u k ≡ false
-unfolding is
-other-btree k b t c u d e = rw (ne-eqb (k .btree) c (λ x. d (sym (eqb-true (k .btree) b (first-true _ (eqb (k .keyType) t) e)) ∙ x)))
-
 btree-of : (b t : ℕ) (k : Bkey) (l m : Bool) → (is b t k && l) && m ≡ true → is b t k ≡ true
 btree-of b t k l m e = first-true (is b t k) l (first-true (is b t k && l) m e)
 
@@ -115,39 +69,33 @@ module _ (id p : ℕ) (k : Bkey) where
   live-key : has (pair id 0) (setPair p k) ≡ liveSnapshot id k
   unfolding setPair liveSnapshot isLiveSnapshot hasSnapState snapState pair
   live-key =
-      first-by (has (pair id 0)) (has-none (pair id 0)) (isLiveSnapshot k) (isLiveSubvolume k) (isAccounted k) (eqb (k .offset) id)
+      first-by (has (pair id 0)) (has-nil (pair id 0)) (isLiveSnapshot k) (isLiveSubvolume k) (isAccounted k) (eqb (k .offset) id)
       (has-same id (k .offset) 0) (has-other id (k .offset) 0 1 (λ e. omega arith)) (has-other id (accountedId k) 0 2 (λ e. omega arith))
       ∙ aside (is 9 22 k && leb 60 (length (k .value))) (eqb (leAt (k .value) 56 4) snapLive) (eqb (k .offset) id)
 
   subvolume-key : has (pair id 1) (setPair p k) ≡ liveSubvolume id k
   unfolding setPair liveSubvolume isLiveSubvolume pair
   subvolume-key =
-      second-by (has (pair id 1)) (has-none (pair id 1)) (isLiveSnapshot k) (isLiveSubvolume k) (isAccounted k) (eqb (k .offset) id) (not-subvolume k)
+      second-by (has (pair id 1)) (has-nil (pair id 1)) (isLiveSnapshot k) (isLiveSubvolume k) (isAccounted k) (eqb (k .offset) id) (not-subvolume k)
       (has-other id (k .offset) 1 0 (λ e. omega arith)) (has-same id (k .offset) 1) (has-other id (accountedId k) 1 2 (λ e. omega arith))
       ∙ aside (is 8 21 k && leb 44 (length (k .value))) (eqb (leAt (k .value) 40 4) subvolLive) (eqb (k .offset) id)
 
   accounted-key : has (pair id 2) (setPair p k) ≡ accounted id k
   unfolding setPair accounted isAccounted pair
   accounted-key =
-      third-by (has (pair id 2)) (has-none (pair id 2)) (isLiveSnapshot k) (isLiveSubvolume k) (isAccounted k) (eqb (accountedId k) id) (not-accounted k) (not-accounted-either k)
+      third-by (has (pair id 2)) (has-nil (pair id 2)) (isLiveSnapshot k) (isLiveSubvolume k) (isAccounted k) (eqb (accountedId k) id) (not-accounted k) (not-accounted-either k)
       (has-other id (k .offset) 2 0 (λ e. omega arith)) (has-other id (k .offset) 2 1 (λ e. omega arith)) (has-same id (accountedId k) 2)
       ∙ aside (is 20 34 k && eqb (k .inode / 2 ^ 56) 5) (leb 8 (length (k .value)) && not (eqb (leAt (k .value) 0 8) 0)) (eqb (accountedId k) id)
 
 -- ---- all keys
 
-some-by : (x : ℕ) (test : Bkey → Bool) (s : List ℕ) → ((p : ℕ) (k : Bkey) → has x (setPair p k) ≡ test k) → (n p : ℕ) → has x (gather setPair s n p) ≡ some test (keysFrom s n p)
-unfolding gather keysFrom some
-some-by x test s one zero p = has-none x
-some-by x test s one (suc n) p =
-    has-append x (setPair p (keyAt s p)) (gather setPair s n (keyEnd s p)) ∙ ap₂ (λ (a b : Bool). a || b) (one p (keyAt s p)) (some-by x test s one n (keyEnd s p))
-
 -- the sets, sorted, say of every key what the rule says
 pub sets-all : (b : Book) (s : List ℕ) (n p : ℕ) {xs : List ℕ} → b .keys ≡ keysFrom s n p → xs ≡ sort (gather setPair s n p) → each (λ _ k. setFindings xs k) 0 (b .keys) ≡ snapshotStates b
 unfolding setFindings deleting willDelete snapshotStateFindings snapshotStates liveChild subvolumeIsLive
 sets-all b s n p {xs} keys sorted =
-    let live : (id : ℕ) → has (pair id 0) xs ≡ some (liveSnapshot id) (b .keys) = λ id. rw (sorted, has-sort, keys) (some-by (pair id 0) (liveSnapshot id) s (live-key id) n p) in
-    let subvolume : (id : ℕ) → has (pair id 1) xs ≡ some (liveSubvolume id) (b .keys) = λ id. rw (sorted, has-sort, keys) (some-by (pair id 1) (liveSubvolume id) s (subvolume-key id) n p) in
-    let counted : (id : ℕ) → has (pair id 2) xs ≡ some (accounted id) (b .keys) = λ id. rw (sorted, has-sort, keys) (some-by (pair id 2) (accounted id) s (accounted-key id) n p) in
+    let live : (id : ℕ) → has (pair id 0) xs ≡ anyKey (liveSnapshot id) (b .keys) = λ id. rw (sorted, has-sort, keys) (any-by (pair id 0) setPair (liveSnapshot id) s (live-key id) n p) in
+    let subvolume : (id : ℕ) → has (pair id 1) xs ≡ anyKey (liveSubvolume id) (b .keys) = λ id. rw (sorted, has-sort, keys) (any-by (pair id 1) setPair (liveSubvolume id) s (subvolume-key id) n p) in
+    let counted : (id : ℕ) → has (pair id 2) xs ≡ anyKey (accounted id) (b .keys) = λ id. rw (sorted, has-sort, keys) (any-by (pair id 2) setPair (accounted id) s (accounted-key id) n p) in
     each-same (setFindings xs) (λ k. only (hasSnapState k && leb (k .offset) 4294967295) (snapshotStateFindings b k))
     (λ k. rw (subvolume (leAt (k .value) 16 4), live (leAt (k .value) 8 4), live (leAt (k .value) 12 4), counted (k .offset)))
     0 (b .keys)

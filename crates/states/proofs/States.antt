@@ -13,9 +13,10 @@ use Rattle.book.specs.Walk.{KeysFit}
 use Rattle.book.proofs.Walk.{step, no-keys}
 use Rattle.states.specs.Distance.{snapLive, subvolUnlinked, subvolDeleted}
 use Rattle.states.specs.Subvolumes.{hasSubvolState, subvolState, unavailable, isUnavailable}
-use Rattle.states.specs.Steps.{keyAt, AtKey, isLiveSnapshot, isTree, groupPair, statePair}
-use Rattle.states.proofs.Gather.{at-length, at-long, long-enough}
-use Rattle.states.proofs.Claims.{first-true}
+use Rattle.walk.specs.Keys.{keyAt, AtKey}
+use Rattle.states.specs.Steps.{isLiveSnapshot, isTree, groupPair, statePair}
+use Rattle.walk.proofs.Gather.{at-length, at-long, long-enough}
+use Rattle.walk.proofs.Sets.{first-true}
 
 module _ {s : List ℕ} {p : ℕ} {f : KeyFront} (k : AtKey s p f) where
   pub gone-yes : (eqb (f .btree) 8 && eqb (f .«key_type») 21) && leb 44 (f .len) ≡ true → {w o : ℕ} → w ≡ leAt (keyAt s p .value) 40 4 → o ≡ keyAt s p .offset

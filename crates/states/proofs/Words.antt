@@ -12,7 +12,7 @@ use Rattle.findings.specs.Findings.{finding, when, only}
 use Rattle.book.specs.Book.{Bkey, is}
 use Rattle.states.specs.Distance.{stateDistance, snapStates, subvolStates}
 use Rattle.states.specs.Steps.{wordOrZero}
-use Rattle.states.proofs.Claims.{first-true}
+use Rattle.walk.proofs.Sets.{first-true}
 use Rattle.states.specs.Words.{stateRequired, snapStateWord, snapshotState, subvolStateUnset, subvolumeWord, subvolumeState, checkStateWords}
 
 -- a snapshot's findings, from its word, the distance and the version's test

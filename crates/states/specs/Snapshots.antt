@@ -7,12 +7,8 @@ use lib.Dec.{eqb, leb}
 use Rattle.bits.specs.Bits.{leAt}
 use Rattle.findings.specs.Findings.{Finding, finding, when, only, each, bytesOf}
 use Rattle.book.specs.Book.{Bkey, Book, is}
+use Rattle.walk.specs.Keys.{anyKey}
 use Rattle.states.specs.Distance.{snapLive, snapWillDelete, snapNoKeys, snapDeleted, subvolLive}
-
--- some key passes the test
-unfoldable pub some : (Bkey → Bool) → List Bkey → Bool
-some test [] = false
-some test (k ∷ ks) = test k || some test ks
 
 -- a snapshot (btree 9, type 22) whose value has a state word, at 56
 unfoldable pub hasSnapState : Bkey → Bool
@@ -41,11 +37,11 @@ accounted id k =
 
 -- the word at byte i of a snapshot names a live snapshot
 unfoldable pub liveChild : Book → Bkey → ℕ → Bool
-liveChild b k i = some (liveSnapshot (leAt (k .value) i 4)) (b .keys)
+liveChild b k i = anyKey (liveSnapshot (leAt (k .value) i 4)) (b .keys)
 
 -- its subvolume, the word at 16, is live
 unfoldable pub subvolumeIsLive : Book → Bkey → Bool
-subvolumeIsLive b k = some (liveSubvolume (leAt (k .value) 16 4)) (b .keys)
+subvolumeIsLive b k = anyKey (liveSubvolume (leAt (k .value) 16 4)) (b .keys)
 
 -- of a snapshot that will be deleted: 33 snapshot_deleted_but_subvol_live, or else 34 snapshot_deleted_has_live_children (both children,
 -- the words at 8 and 12); of one with no keys or deleted: 35 snapshot_deleted_but_has_data
@@ -54,7 +50,7 @@ snapshotStateFindings b k =
     only (eqb (snapState k) snapWillDelete)
     (when (subvolumeIsLive b k) (finding 33 (k .offset) 0)
     ++ when (not (subvolumeIsLive b k) && (liveChild b k 8 && liveChild b k 12)) (finding 34 (k .offset) 0))
-    ++ when ((eqb (snapState k) snapNoKeys || eqb (snapState k) snapDeleted) && some (accounted (k .offset)) (b .keys)) (finding 35 (k .offset) 0)
+    ++ when ((eqb (snapState k) snapNoKeys || eqb (snapState k) snapDeleted) && anyKey (accounted (k .offset)) (b .keys)) (finding 35 (k .offset) 0)
 
 unfoldable pub snapshotStates : Book → List Finding
 snapshotStates b = each (λ _ k. only (hasSnapState k && leb (k .offset) 4294967295) (snapshotStateFindings b k)) 0 (b .keys)

@@ -18,21 +18,6 @@ use Rattle.states.specs.Subvolumes.{unavailable, subvolState, claims}
 unfoldable pub wordOrZero : List ℕ → ℕ → ℕ
 wordOrZero value at = cond (leb (at + 4) (length value)) (leAt value at 4) 0
 
--- the key at byte p
-abbrev pub keyAt : List ℕ → ℕ → Bkey
-keyAt s p = keyOf s (keyHead s p)
-
--- a key that lies within a book stands at byte p, and f is its front
-pub record AtKey (s : List ℕ) (p : ℕ) (f : KeyFront) : Type 0 where
-  pub small : length s ≤ 1048576
-  pub inside : keyEnd s p ≤ length s
-  pub front : f ≡ frontOf (keyHead s p)
-
--- what `of` gives for the n keys from byte p on, each with its place
-unfoldable pub gather : (ℕ → Bkey → List ℕ) → List ℕ → ℕ → ℕ → List ℕ
-gather of s zero p = []
-gather of s (suc n) p = of p (keyAt s p) ++ gather of s n (keyEnd s p)
-
 -- the pair that a claimant gives: the snapshot that it claims, and 0
 unfoldable pub claimPair : ℕ → Bkey → List ℕ
 claimPair p k = cond (claims k) (pair (leAt (k .value) 4 4) 0 ∷ []) []

@@ -20,20 +20,8 @@ ghost use Rattle.states.specs.Sets.{
   deleting,
   setFindings,
 };
-ghost use Rattle.states.specs.Steps.{
-  wordOrZero,
-  keyAt,
-  AtKey,
-  gather,
-  claimPair,
-  firsts,
-  RunEnd,
-  isLiveSnapshot,
-  groupPair,
-  statePair,
-  groupFindings,
-  judged,
-};
+ghost use Rattle.walk.specs.Keys.{keyAt, AtKey, gather};
+ghost use Rattle.states.specs.Steps.{wordOrZero, claimPair, firsts, RunEnd, isLiveSnapshot, groupPair, statePair, groupFindings, judged};
 ghost use Rattle.states.specs.Subvolumes.{
   unavailable,
   subvolumeStates,
@@ -210,14 +198,6 @@ pub fn check_state_words(
     0
 }
 
-// The word at byte i of the value of the key at byte p, whose front is f.
-fn key_word(book: &[u8], p: usize, f: KeyFront, i: usize) -> u32
-    requires { ⌜ AtKey (now book) p f × (i + 4 ≤ f .len) ⌝ }
-    ensures { λ r. ⌜ r ≡ leAt (keyAt (now (book .entry)) p .value) i 4 ⌝ }
-{
-    bits::le32(book, p + 28 + i)
-}
-
 // Whether the key at byte p is a subvolume that claims a snapshot.
 fn claims_snapshot(book: &[u8], p: usize, f: KeyFront) -> bool
     requires { ⌜ AtKey (now book) p f ⌝ }
@@ -227,7 +207,7 @@ fn claims_snapshot(book: &[u8], p: usize, f: KeyFront) -> bool
         if f.len < 44 {
             return true;
         }
-        let word = key_word(book, p, f, SUBVOL_STATE);
+        let word = walk::key_word(book, p, f, SUBVOL_STATE);
         return !(bits_apart(word, SUBVOL_DELETED) <= 2);
     }
     false
@@ -240,7 +220,7 @@ fn put_claim(book: &[u8], p: usize, f: KeyFront, work: &mut [u64], n: usize) -> 
     ensures few { λ r. ⌜ r ≤ n + 1 ⌝ }
 {
     if claims_snapshot(book, p, f) {
-        let snapshot = key_word(book, p, f, 4);
+        let snapshot = walk::key_word(book, p, f, 4);
         pairs::put_pair(work, n, snapshot as u64, 0);
         return n + 1;
     }
@@ -319,23 +299,14 @@ pub fn snapshot_claims(
     show_claims(work, n, out)
 }
 
-// The offset of the key at byte p.
-fn key_offset(book: &[u8], p: usize, f: KeyFront) -> u64
-    requires { ⌜ AtKey (now book) p f ⌝ }
-    ensures { λ r. ⌜ r ≡ keyAt (now (book .entry)) p .offset ⌝ }
-{
-    let h = book::key_head(book, p);
-    h.offset
-}
-
 // Whether the key at byte p is an unlinked or deleted subvolume whose offset is an id of 32 bits.
 fn is_gone(book: &[u8], p: usize, f: KeyFront) -> bool
     requires { ⌜ AtKey (now book) p f ⌝ }
     ensures { λ r. ⌜ r ≡ unavailable (keyAt (now (book .entry)) p) ⌝ }
 {
     if ((f.btree == 8) & (f.key_type == 21)) & (44 <= f.len) {
-        let state = key_word(book, p, f, SUBVOL_STATE);
-        let offset = key_offset(book, p, f);
+        let state = walk::key_word(book, p, f, SUBVOL_STATE);
+        let offset = walk::key_offset(book, p, f);
         return ((state == SUBVOL_UNLINKED) | (state == SUBVOL_DELETED)) & (offset <= 0xffff_ffff);
     }
     false
@@ -347,7 +318,7 @@ fn is_gone_id(book: &[u8], p: usize, f: KeyFront, id: u64) -> bool
     ensures { λ r. ⌜ r ≡ unavailable (keyAt (now (book .entry)) p) && eqb (keyAt (now (book .entry)) p .offset) id ⌝ }
 {
     if is_gone(book, p, f) {
-        return key_offset(book, p, f) == id;
+        return walk::key_offset(book, p, f) == id;
     }
     false
 }
@@ -377,7 +348,7 @@ fn is_live_snapshot(book: &[u8], p: usize, f: KeyFront) -> bool
     ensures { λ r. ⌜ r ≡ isLiveSnapshot (keyAt (now (book .entry)) p) ⌝ }
 {
     if ((f.btree == 9) & (f.key_type == 22)) & (60 <= f.len) {
-        return key_word(book, p, f, SNAP_STATE) == SNAP_LIVE;
+        return walk::key_word(book, p, f, SNAP_STATE) == SNAP_LIVE;
     }
     false
 }
@@ -387,7 +358,7 @@ fn put_in_group(book: &[u8], p: usize, f: KeyFront, group: u64, work: &mut [u64]
     requires { ⌜ AtKey (now book) p f × (2 * n + 2 ≤ length (now work)) ⌝ }
     ensures { λ _. ⌜ pairsOf (now (work .exit)) (n + 1) ≡ pairsOf (now (work .entry)) n ++ (groupPair group (keyAt (now (book .entry)) p) ∷ []) ⌝ }
 {
-    let offset = key_offset(book, p, f);
+    let offset = walk::key_offset(book, p, f);
     pairs::put_pair(work, n, group, offset);
 }
 
@@ -398,12 +369,12 @@ fn put_state(book: &[u8], p: usize, f: KeyFront, work: &mut [u64], n: usize) -> 
     ensures few { λ r. ⌜ r ≤ n + 1 ⌝ }
 {
     if is_live_snapshot(book, p, f) {
-        let id = key_word(book, p, f, 16) as u64;
+        let id = walk::key_word(book, p, f, 16) as u64;
         put_in_group(book, p, f, 2 * id, work, n);
         return n + 1;
     }
     if ((f.btree == 15) & (f.key_type == 31)) & (8 <= f.len) {
-        let id = key_word(book, p, f, 0) as u64;
+        let id = walk::key_word(book, p, f, 0) as u64;
         put_in_group(book, p, f, 2 * id + 1, work, n);
         return n + 1;
     }
@@ -480,8 +451,8 @@ fn show_subvolume(
     ensures few { λ r. ⌜ r ≤ m + 1 + n + n ⌝ }
 {
     if is_gone(book, p, f) {
-        let id = key_offset(book, p, f);
-        let state = key_word(book, p, f, SUBVOL_STATE);
+        let id = walk::key_offset(book, p, f);
+        let state = walk::key_word(book, p, f, SUBVOL_STATE);
         let found = emit_if(out, m, id == 1, 29, 1, 0);
         if state == SUBVOL_DELETED {
             return show_deleted(work, n, id, out, found);
@@ -538,7 +509,7 @@ fn is_live_subvolume(book: &[u8], p: usize, f: KeyFront) -> bool
     ensures { λ r. ⌜ r ≡ isLiveSubvolume (keyAt (now (book .entry)) p) ⌝ }
 {
     if ((f.btree == 8) & (f.key_type == 21)) & (44 <= f.len) {
-        return key_word(book, p, f, SUBVOL_STATE) == SUBVOL_LIVE;
+        return walk::key_word(book, p, f, SUBVOL_STATE) == SUBVOL_LIVE;
     }
     false
 }
@@ -549,20 +520,11 @@ fn is_accounted(book: &[u8], p: usize, f: KeyFront) -> bool
     ensures { λ r. ⌜ r ≡ isAccounted (keyAt (now (book .entry)) p) ⌝ }
 {
     if ((f.btree == 20) & (f.key_type == 34)) & (8 <= f.len) {
-        let inode = key_inode(book, p, f);
+        let inode = walk::key_inode(book, p, f);
         let keys = bits::le64(book, p + 28);
         return (inode / 0x0100_0000_0000_0000 == 5) & (keys != 0);
     }
     false
-}
-
-// The inode of the key at byte p.
-fn key_inode(book: &[u8], p: usize, f: KeyFront) -> u64
-    requires { ⌜ AtKey (now book) p f ⌝ }
-    ensures { λ r. ⌜ r ≡ keyAt (now (book .entry)) p .inode ⌝ }
-{
-    let h = book::key_head(book, p);
-    h.inode
 }
 
 // The snapshot that an accounting key's inode names: the four bytes after the kind, the least significant first.
@@ -582,15 +544,15 @@ fn put_set(book: &[u8], p: usize, f: KeyFront, work: &mut [u64], n: usize) -> us
     ensures few { λ r. ⌜ r ≤ n + 1 ⌝ }
 {
     if is_live_snapshot(book, p, f) {
-        pairs::put_pair(work, n, key_offset(book, p, f), 0);
+        pairs::put_pair(work, n, walk::key_offset(book, p, f), 0);
         return n + 1;
     }
     if is_live_subvolume(book, p, f) {
-        pairs::put_pair(work, n, key_offset(book, p, f), 1);
+        pairs::put_pair(work, n, walk::key_offset(book, p, f), 1);
         return n + 1;
     }
     if is_accounted(book, p, f) {
-        pairs::put_pair(work, n, accounted_id(key_inode(book, p, f)), 2);
+        pairs::put_pair(work, n, accounted_id(walk::key_inode(book, p, f)), 2);
         return n + 1;
     }
     n
@@ -659,7 +621,7 @@ fn is_judged(book: &[u8], p: usize, f: KeyFront) -> bool
     ensures { λ r. ⌜ r ≡ hasSnapState (keyAt (now (book .entry)) p) && leb (keyAt (now (book .entry)) p .offset) 4294967295 ⌝ }
 {
     if ((f.btree == 9) & (f.key_type == 22)) & (60 <= f.len) {
-        return key_offset(book, p, f) <= 0xffff_ffff;
+        return walk::key_offset(book, p, f) <= 0xffff_ffff;
     }
     false
 }
@@ -678,11 +640,11 @@ fn show_deleting(
     ensures added { λ r. ⌜ Added (now (out .entry)) m (deleting (pairsOf (now (work .entry)) n) (keyAt (now (book .entry)) p)) r (now (out .exit)) ⌝ }
     ensures few { λ r. ⌜ r ≤ m + 2 ⌝ }
 {
-    if key_word(book, p, f, SNAP_STATE) == SNAP_WILL_DELETE {
-        let subvolume = key_word(book, p, f, 16);
-        let left = key_word(book, p, f, 8);
-        let right = key_word(book, p, f, 12);
-        let offset = key_offset(book, p, f);
+    if walk::key_word(book, p, f, SNAP_STATE) == SNAP_WILL_DELETE {
+        let subvolume = walk::key_word(book, p, f, 16);
+        let left = walk::key_word(book, p, f, 8);
+        let right = walk::key_word(book, p, f, 12);
+        let offset = walk::key_offset(book, p, f);
         return show_will_delete(work, n, subvolume, left, right, offset, out, m);
     }
     m
@@ -704,8 +666,8 @@ fn show_snapshot(
 {
     if is_judged(book, p, f) {
         let found = show_deleting(book, p, f, work, n, out, m);
-        let state = key_word(book, p, f, SNAP_STATE);
-        let offset = key_offset(book, p, f);
+        let state = walk::key_word(book, p, f, SNAP_STATE);
+        let offset = walk::key_offset(book, p, f);
         return show_has_data(work, n, state, offset, out, found);
     }
     m

@@ -3,7 +3,7 @@ use mathlib.Core.Path.{sym, ap, _∙_}
 use Prim.Native.Nat.{ℕ}
 use native.Mathlib.Nat.{add-zero}
 use Rattle.bits.specs.Bits.{leAt}
-use Rattle.states.proofs.Gather.{at-end, at-least, at-word}
+use Rattle.walk.proofs.Gather.{at-end, at-least, at-word}
 use Rattle.states.proofs.Snapshots.{accounted-yes, accounted-no}
 use borrow.Author.Needs.{needs}
 use native.Mathlib.Omega.{arith}

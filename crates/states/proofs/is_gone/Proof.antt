@@ -1,5 +1,5 @@
 -- By its tests.
-use Rattle.states.proofs.Gather.{at-least}
+use Rattle.walk.proofs.Gather.{at-least}
 use Rattle.states.proofs.States.{gone-yes, gone-no}
 use borrow.Author.Needs.{needs}
 use Rattle.states.proofs.is_gone.Statement.{statement}

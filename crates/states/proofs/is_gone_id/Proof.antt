@@ -1,6 +1,6 @@
 -- By its tests.
 use mathlib.Core.Path.{sym, _∙_}
-use Rattle.states.specs.Steps.{keyAt}
+use Rattle.walk.specs.Keys.{keyAt}
 use Rattle.states.proofs.States.{gone-id, gone-id-no}
 use borrow.Author.Needs.{needs}
 use Rattle.states.proofs.is_gone_id.Statement.{statement}

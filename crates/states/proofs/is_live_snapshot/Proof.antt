@@ -1,5 +1,5 @@
 -- By its tests.
-use Rattle.states.proofs.Gather.{at-least}
+use Rattle.walk.proofs.Gather.{at-least}
 use Rattle.states.proofs.States.{live-yes, live-no}
 use Rattle.states.proofs.is_live_snapshot.Statement.{statement}
 use Rattle.states.proofs.is_live_snapshot.Tie as tie

@@ -1,5 +1,5 @@
 -- By its tests.
-use Rattle.states.proofs.Gather.{at-least}
+use Rattle.walk.proofs.Gather.{at-least}
 use Rattle.states.proofs.Snapshots.{subvolume-yes, subvolume-no}
 use Rattle.states.proofs.is_live_subvolume.Statement.{statement}
 use Rattle.states.proofs.is_live_subvolume.Tie as tie

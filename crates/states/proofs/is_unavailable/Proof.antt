@@ -3,7 +3,7 @@ use mathlib.Core.Path.{_≡_, refl, sym, _∙_}
 use Rattle.book.specs.Book.{keysFrom}
 use Rattle.book.specs.Walk.{KeysFit}
 use Rattle.book.proofs.Walk.{parts, step}
-use Rattle.states.proofs.Gather.{at-key, at-end}
+use Rattle.walk.proofs.Gather.{at-key, at-end}
 use Rattle.states.specs.Subvolumes.{isUnavailable}
 use Rattle.states.proofs.States.{gone-here, gone-next, gone-end}
 use borrow.Author.Needs.{needs}

@@ -2,7 +2,7 @@
 use lib.ListN.{length}
 use mathlib.Core.Path.{_≡_, refl}
 use Rattle.book.proofs.Walk.{parts, step}
-use Rattle.states.proofs.Gather.{Gathered, at-key, at-end, none-yet, one-more, all-put}
+use Rattle.walk.proofs.Gather.{Gathered, at-key, at-end, none-yet, one-more, all-put}
 use Rattle.states.specs.Steps.{claimPair}
 use borrow.Author.Needs.{needs}
 use native.Mathlib.Omega.{arith}

@@ -3,7 +3,7 @@ use mathlib.Core.Path.{sym, ap, _∙_}
 use Prim.Native.Nat.{ℕ}
 use mathlib.Core.List.{List, _++_, append-nil}
 use Rattle.pairs.specs.Pairs.{pairsOf}
-use Rattle.states.specs.Steps.{keyAt}
+use Rattle.walk.specs.Keys.{keyAt}
 use Rattle.states.proofs.Snapshots.{set-snapshot, set-subvolume, set-accounted, set-none}
 use borrow.Author.Needs.{needs}
 use native.Mathlib.Omega.{arith}

@@ -3,7 +3,7 @@ use mathlib.Core.Path.{sym, ap, _∙_}
 use Prim.Native.Nat.{ℕ}
 use mathlib.Core.List.{List, _++_, append-nil}
 use Rattle.pairs.specs.Pairs.{pairsOf}
-use Rattle.states.proofs.Gather.{at-least}
+use Rattle.walk.proofs.Gather.{at-least}
 use Rattle.states.proofs.States.{live-long, state-snapshot, state-tree, state-none}
 use borrow.Author.Needs.{needs}
 use native.Mathlib.Omega.{arith}

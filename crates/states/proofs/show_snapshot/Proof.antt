@@ -1,7 +1,7 @@
 -- By its tests.
 use mathlib.Core.Path.{sym, _∙_}
 use Rattle.findings.proofs.Laws.{added-as, added-more, added-nil}
-use Rattle.states.proofs.Gather.{at-length}
+use Rattle.walk.proofs.Gather.{at-length}
 use Rattle.states.proofs.Snapshots.{sets-yes, sets-no, snap-long}
 use borrow.Author.Needs.{needs}
 use native.Mathlib.Omega.{arith}

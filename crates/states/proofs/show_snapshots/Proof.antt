@@ -6,7 +6,7 @@ use Rattle.pairs.specs.Pairs.{pairsOf}
 use Rattle.book.specs.Book.{keysFrom}
 use Rattle.book.specs.Walk.{KeysFit}
 use Rattle.book.proofs.Walk.{parts, step, no-keys}
-use Rattle.states.proofs.Gather.{at-key, at-end, key-next}
+use Rattle.walk.proofs.Gather.{at-key, at-end, key-next}
 use Rattle.states.specs.Sets.{setFindings}
 use borrow.Author.Needs.{needs}
 use native.Mathlib.Omega.{arith}

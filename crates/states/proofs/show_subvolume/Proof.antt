@@ -1,7 +1,7 @@
 -- By the tests.
 use mathlib.Core.Path.{sym, _∙_}
 use Rattle.findings.proofs.Laws.{added-more, added-as, added-nil}
-use Rattle.states.proofs.Gather.{at-length}
+use Rattle.walk.proofs.Gather.{at-length}
 use Rattle.states.proofs.Groups.{judged-no, judged-unlinked, judged-deleted, gone-long, gone-small}
 use borrow.Author.Needs.{needs}
 use native.Mathlib.Omega.{arith}

@@ -5,7 +5,7 @@ use Rattle.pairs.specs.Pairs.{sort}
 use Rattle.pairs.proofs.Order.{sorted-by}
 use Rattle.states.specs.Subvolumes.{claimed, snapshotClaims}
 use Rattle.book.specs.Book.{keysFrom}
-use Rattle.states.proofs.Gather.{claims-paired}
+use Rattle.states.proofs.Claims.{claims-paired}
 use Rattle.states.proofs.Counts.{sorted-findings}
 use borrow.Author.Needs.{needs}
 use native.Mathlib.Omega.{arith}

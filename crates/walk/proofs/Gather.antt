@@ -1,8 +1,8 @@
 -- A walk over the keys of a book that puts pairs: its invariant, and the laws by which it begins, turns and ends.
 use Prim.Native.Nat.{ℕ, zero, suc, _+_, _-_, _≤_, _<_}
 use mathlib.Core.Path.{_≡_, refl, sym, ap, _∙_}
-use mathlib.Core.Bool.{Bool, true, false, true≢false, cond, _&&_}
-use mathlib.Core.List.{List, [], _∷_, _++_, map, append-assoc, append-nil}
+use mathlib.Core.Bool.{Bool, true, false, true≢false, _&&_}
+use mathlib.Core.List.{List, _++_, append-assoc, append-nil}
 use native.Mathlib.Omega.{arith}
 use lib.ListN.{length}
 use lib.Dec.{eqb, leb}
@@ -10,13 +10,12 @@ use borrow.Author.Tests.{leb-true}
 use Rattle.bits.specs.Bits.{leAt}
 use Rattle.findings.specs.Findings.{Finding, each}
 use Rattle.findings.proofs.Walk.{each-next}
-use Rattle.pairs.specs.Pairs.{pair, pairsOf}
+use Rattle.pairs.specs.Pairs.{pairsOf}
 use Rattle.book.specs.declared.KeyFront.{KeyFront}
 use Rattle.book.specs.Book.{Bkey, is, keyHead, keyEnd, keysFrom}
 use Rattle.book.specs.Walk.{KeysFit, frontOf}
 use Rattle.book.proofs.Walk.{step, front-end, value-length, value-word}
-use Rattle.states.specs.Subvolumes.{claims, claimed}
-use Rattle.states.specs.Steps.{keyAt, AtKey, gather, claimPair}
+use Rattle.walk.specs.Keys.{keyAt, AtKey, gather}
 
 -- ---- the key at hand
 
@@ -88,17 +87,6 @@ module _ {of : ℕ → Bkey → List ℕ} {s : List ℕ} {count start : ℕ} whe
   pub all-put : {w : List ℕ} {n left p : ℕ} → Gathered of s count start w n left p → left ≡ 0 → pairsOf w n ≡ gather of s count start
   unfolding gather
   all-put {w} {n} g e = sym (g .whole ∙ rw e (append-nil (pairsOf w n)))
-
--- ---- claims
-
-paired-by : (b : Bool) (x : ℕ) (xs ys : List ℕ) → ys ≡ map (λ y. pair y 0) xs → cond b (pair x 0 ∷ []) [] ++ ys ≡ map (λ y. pair y 0) (cond b (x ∷ xs) xs)
-paired-by true x xs ys e = ap (λ (l : List ℕ). pair x 0 ∷ l) e
-paired-by false x xs ys e = e
-
-pub claims-paired : (s : List ℕ) (n p : ℕ) → gather claimPair s n p ≡ map (λ y. pair y 0) (claimed (keysFrom s n p))
-unfolding gather claimPair claimed keysFrom
-claims-paired s zero p = refl
-claims-paired s (suc n) p = paired-by (claims (keyAt s p)) (leAt (keyAt s p .value) 4 4) (claimed (keysFrom s n (keyEnd s p))) (gather claimPair s n (keyEnd s p)) (claims-paired s n (keyEnd s p))
 
 -- ---- a rule key after key
 

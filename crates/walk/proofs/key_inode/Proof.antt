@@ -1,10 +1,10 @@
 -- The head lies within the book.
 use mathlib.Core.Path.{ap}
 use Rattle.book.specs.declared.KeyHead.{KeyHead}
-use Rattle.states.proofs.Gather.{at-end}
+use Rattle.walk.proofs.Gather.{at-end}
 use native.Mathlib.Omega.{arith}
-use Rattle.states.proofs.key_inode.Statement.{statement}
-use Rattle.states.proofs.key_inode.Tie as tie
+use Rattle.walk.proofs.key_inode.Statement.{statement}
+use Rattle.walk.proofs.key_inode.Tie as tie
 
 pub key-inode-spec : {M : Type 1} → statement M
 key-inode-spec =

@@ -1,9 +1,9 @@
 -- The word lies in the value of the key.
 use mathlib.Core.Path.{_∙_}
-use Rattle.states.proofs.Gather.{at-end, at-word}
+use Rattle.walk.proofs.Gather.{at-end, at-word}
 use native.Mathlib.Omega.{arith}
-use Rattle.states.proofs.key_word.Statement.{statement}
-use Rattle.states.proofs.key_word.Tie as tie
+use Rattle.walk.proofs.key_word.Statement.{statement}
+use Rattle.walk.proofs.key_word.Tie as tie
 
 pub key-word-spec : {M : Type 1} → statement M
 key-word-spec =

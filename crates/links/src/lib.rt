@@ -1,0 +1,1 @@
+// The rule on the links between snapshots and their trees.

@@ -1,0 +1,1 @@
+// The maps that rules make from the keys, as sorted pairs in the work words.

@@ -1,0 +1,1 @@
+// The rules on the subvolume flags of snapshots and on the children of subvolumes.
