@@ -1,1 +1,60 @@
 // The maps that rules make from the keys, as sorted pairs in the work words.
+ghost use mathlib.Core.Path.{_≡_};
+ghost use Prim.Native.Nat.{_+_, _*_, _≤_, _<_};
+ghost use lib.ListN.{length, drop};
+ghost use Rattle.pairs.specs.Pairs.{pairAt, pairsOf, Sorted};
+ghost use Rattle.maps.specs.Places.{isFor, lastPlace, goesOn};
+ghost use Rattle.maps.specs.Sorted.{lastAt};
+use pairs::MaybeU64;
+
+// Whether pair i is of a map and has a number.
+fn is_for(w: &[u64], i: usize, which: u64, number: u64) -> bool
+    requires { ⌜ 2 * i + 1 < length (now w) ⌝ }
+    ensures { λ r. ⌜ r ≡ isFor which number (pairAt (now (w .entry)) i) ⌝ }
+{
+    let p = 2 * i;
+    let first = w[p];
+    let second = w[p + 1];
+    (first == number) & (second / 0x1_0000_0000 == which)
+}
+
+// The place in the last pair of a map with a number, of the first n pairs, which are sorted.
+pub fn find_place(w: &[u64], n: usize, which: u64, number: u64) -> MaybeU64
+    requires { ⌜ (2 * n ≤ length (now w)) × Sorted (pairsOf (now w) n) × (which < 2) ⌝ }
+    ensures { λ r. ⌜ r ≡ lastPlace which number (pairsOf (now (w .entry)) n) ⌝ }
+{
+    let r = pairs::lower_bound(w, n, number, (which + 1) * 0x1_0000_0000);
+    if r == 0 {
+        return MaybeU64::Absent;
+    }
+    let i = r - 1;
+    if is_for(w, i, which, number) {
+        let p = 2 * i;
+        MaybeU64::Is(w[p + 1] % 0x1_0000_0000)
+    } else {
+        MaybeU64::Absent
+    }
+}
+
+// Whether there is a pair i among the first n, of a map and with a number.
+fn goes_on(w: &[u64], n: usize, i: usize, which: u64, number: u64) -> bool
+    requires { ⌜ 2 * n ≤ length (now w) ⌝ }
+    ensures { λ r. ⌜ r ≡ goesOn which number (drop i (pairsOf (now (w .entry)) n)) ⌝ }
+{
+    if i < n {
+        return is_for(w, i, which, number);
+    }
+    false
+}
+
+// Whether pair i of the first n is of a map, and the last of its number.
+pub fn is_last(w: &[u64], n: usize, i: usize, which: u64) -> bool
+    requires { ⌜ (2 * n ≤ length (now w)) × (i < n) × (which < 2) ⌝ }
+    ensures { λ r. ⌜ r ≡ lastAt which (drop i (pairsOf (now (w .entry)) n)) ⌝ }
+{
+    let p = 2 * i;
+    let number = w[p];
+    let own = is_for(w, i, which, number);
+    let more = goes_on(w, n, i + 1, which, number);
+    own & !more
+}

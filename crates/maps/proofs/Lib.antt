@@ -1,0 +1,4 @@
+pub mod Maps
+pub mod Pairs
+pub mod Last
+pub mod Places
