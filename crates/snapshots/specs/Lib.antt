@@ -1,3 +1,4 @@
 pub mod Words
 pub mod Flags
 pub mod Children
+pub mod Steps

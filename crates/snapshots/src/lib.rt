@@ -1,1 +1,290 @@
 // The rules on the subvolume flags of snapshots and on the children of subvolumes.
+ghost use mathlib.Core.Path.{_≡_};
+ghost use mathlib.Core.List.{_++_};
+ghost use Prim.Native.Nat.{_+_, _*_, _%_, _^_, _<_, _≤_};
+ghost use lib.ListN.{length, getD, drop};
+ghost use Rattle.findings.specs.Findings.{Found, Added, only, each};
+ghost use Rattle.pairs.specs.Pairs.{pairsOf};
+ghost use Rattle.book.specs.Maps.{lookup};
+ghost use Rattle.book.specs.Book.{bookOf};
+ghost use Rattle.book.specs.Walk.{Opened, maybeU32};
+ghost use Rattle.walk.specs.Keys.{keyAt, AtKey, gather};
+ghost use Rattle.maps.specs.Sorted.{AllPairs, lastAt};
+ghost use Rattle.snapshots.specs.Words.{word};
+ghost use Rattle.snapshots.specs.Flags.{flagFindings, snapshotSubvolFlags};
+ghost use Rattle.snapshots.specs.Children.{
+  hasFsParent,
+  fsParents,
+  isEntry,
+  missingEntry,
+  wrongEntry,
+  subvolumeChildren,
+};
+ghost use Rattle.snapshots.specs.Steps.{isListed, childPair, AtChild};
+use book::Header;
+use book::KeyFront;
+use book::MaybeU32;
+use book::Places;
+use findings::emit;
+use findings::emit_if;
+use findings::start_of;
+use pairs::MaybeU64;
+
+// Where the state and the parent of a subvolume stand, and the state of a deleted one.
+const SUBVOL_STATE: usize = 40;
+
+const SUBVOL_FS_PARENT: usize = 20;
+
+const SUBVOL_DELETED: u32 = 0x3c6b_2d4c;
+
+// The finding of the key at byte p, if it is a snapshot whose subvolume flag, bit 1 of its flags, is wrong.
+fn show_flag(book: &[u8], p: usize, f: KeyFront, out: &mut [u8], n: usize) -> usize
+    requires { ⌜ AtKey (now book) p f × (n < 2 ^ 62) ⌝ }
+    ensures added { λ r. ⌜ Added (now (out .entry)) n (flagFindings (keyAt (now (book .entry)) p)) r (now (out .exit)) ⌝ }
+    ensures few { λ r. ⌜ r ≤ n + 1 ⌝ }
+{
+    if ((f.btree == 9) & (f.key_type == 22)) & (20 <= f.len) {
+        let flagged = walk::key_word(book, p, f, 0) / 2 % 2 == 1;
+        let subvolume = walk::key_word(book, p, f, 16);
+        let offset = walk::key_offset(book, p, f);
+        let wrong = (flagged & (subvolume == 0)) | (!flagged & (subvolume != 0));
+        return emit_if(out, n, wrong, 36, offset, subvolume as u64);
+    }
+    n
+}
+
+// The findings of snapshots whose subvolume flag is set without a subvolume, or clear with one.
+pub fn snapshot_subvol_flags(book: &[u8], h: Header, at: Places, out: &mut [u8]) -> usize
+    requires { ⌜ Opened (now book) h at ⌝ }
+    ensures found { λ r. ⌜ Found (now (out .entry)) (snapshotSubvolFlags (bookOf (now (book .entry)))) r (now (out .exit)) ⌝ }
+    ensures few { λ r. ⌜ r ≤ h .keys ⌝ }
+{
+    let mut n: usize = 0;
+    let mut left = h.keys;
+    let mut p = at.keys;
+    while 0 < left {
+        let f = book::key_front(book, p);
+        n = show_flag(book, p, f, out, n);
+        p = p + 28 + f.len;
+        left -= 1;
+    }
+    n
+}
+
+// Whether the key at byte p is a subvolume with a parent that is not deleted.
+fn has_fs_parent(book: &[u8], p: usize, f: KeyFront) -> bool
+    requires { ⌜ AtKey (now book) p f ⌝ }
+    ensures { λ r. ⌜ r ≡ hasFsParent (keyAt (now (book .entry)) p) ⌝ }
+{
+    if ((f.btree == 8) & (f.key_type == 21)) & (24 <= f.len) {
+        if f.len < 44 {
+            return true;
+        }
+        return walk::key_word(book, p, f, SUBVOL_STATE) != SUBVOL_DELETED;
+    }
+    false
+}
+
+// Whether the key at byte p is an entry whose parent is a number of 32 bits.
+fn is_listed(book: &[u8], p: usize, f: KeyFront) -> bool
+    requires { ⌜ AtKey (now book) p f ⌝ }
+    ensures { λ r. ⌜ r ≡ isListed (keyAt (now (book .entry)) p) ⌝ }
+{
+    if (f.btree == 19) & (f.key_type == 25) {
+        return walk::key_inode(book, p, f) <= 0xffff_ffff;
+    }
+    false
+}
+
+// Puts the pair that the key at byte p gives behind the first n, and returns their number with it.
+fn put_child(book: &[u8], p: usize, f: KeyFront, work: &mut [u64], n: usize) -> usize
+    requires { ⌜ AtKey (now book) p f × (2 * n + 2 ≤ length (now work)) ⌝ }
+    ensures put { λ r. ⌜ pairsOf (now (work .exit)) r ≡ pairsOf (now (work .entry)) n ++ childPair p (keyAt (now (book .entry)) p) ⌝ }
+    ensures few { λ r. ⌜ r ≤ n + 1 ⌝ }
+{
+    if has_fs_parent(book, p, f) {
+        pairs::put_pair(work, n, walk::key_offset(book, p, f), p as u64);
+        return n + 1;
+    }
+    if is_listed(book, p, f) {
+        let parent = walk::key_inode(book, p, f);
+        pairs::put_pair(
+            work,
+            n,
+            walk::key_offset(book, p, f),
+            0x1_0000_0000 + parent,
+        );
+        return n + 1;
+    }
+    n
+}
+
+// Puts a pair for each subvolume with a parent and each entry, and returns their number.
+fn put_children(book: &[u8], h: Header, at: Places, work: &mut [u64]) -> usize
+    requires { ⌜ Opened (now book) h at × (2 * h .keys ≤ length (now work)) ⌝ }
+    ensures put { λ r. ⌜ pairsOf (now (work .exit)) r ≡ gather childPair (now (book .entry)) (h .keys) (at .keys) ⌝ }
+    ensures few { λ r. ⌜ r ≤ h .keys ⌝ }
+{
+    let mut left = h.keys;
+    let mut p = at.keys;
+    let mut n: usize = 0;
+    while 0 < left {
+        let f = book::key_front(book, p);
+        n = put_child(book, p, f, work, n);
+        p = p + 28 + f.len;
+        left -= 1;
+    }
+    n
+}
+
+// The parent of the subvolume at byte p.
+fn fs_parent(book: &[u8], p: usize) -> u32
+    requires { ⌜ AtChild (now book) p ⌝ }
+    ensures { λ r. ⌜ r ≡ word 20 (keyAt (now (book .entry)) p) ⌝ }
+{
+    let f = book::key_front(book, p);
+    walk::key_word(book, p, f, SUBVOL_FS_PARENT)
+}
+
+// The finding of pair i, if it is a subvolume's place and the last with its offset: it has a parent and no entry.
+fn show_missing(
+    book: &[u8],
+    h: Header,
+    at: Places,
+    work: &[u64],
+    n: usize,
+    i: usize,
+    out: &mut [u8],
+    m: usize,
+) -> usize
+    requires { ⌜ Opened (now book) h at × (2 * n ≤ length (now work)) × (i < n) × AllPairs childPair (now book) (h .keys) (at .keys) (pairsOf (now work) n) × (m < 2 ^ 62) ⌝ }
+    ensures added { λ r. ⌜ Added (now (out .entry)) m (only (lastAt 0 (drop i (pairsOf (now (work .entry)) n))) (missingEntry (bookOf (now (book .entry)) .keys) (getD (now (work .entry)) (2 * i) 0, word 20 (keyAt (now (book .entry)) (getD (now (work .entry)) (2 * i + 1) 0 % 2 ^ 32))))) r (now (out .exit)) ⌝ }
+    ensures few { λ r. ⌜ r ≤ m + 1 ⌝ }
+{
+    if maps::is_last(work, n, i, 0) {
+        let q = 2 * i;
+        let child = work[q];
+        let place = work[q + 1] % 0x1_0000_0000;
+        let parent = fs_parent(book, place as usize) as u64;
+        let entry = pairs::has_pair(work, n, child, 0x1_0000_0000 + parent);
+        return emit_if(out, m, (parent != 0) & !entry, 37, child, parent);
+    }
+    m
+}
+
+// The findings of the subvolumes whose entry is missing, by the first n pairs, which are sorted.
+fn show_missings(
+    book: &[u8],
+    h: Header,
+    at: Places,
+    work: &[u64],
+    n: usize,
+    out: &mut [u8],
+) -> usize
+    requires { ⌜ Opened (now book) h at × (2 * n ≤ length (now work)) × (n ≤ h .keys) × AllPairs childPair (now book) (h .keys) (at .keys) (pairsOf (now work) n) ⌝ }
+    ensures found { λ r. ⌜ Found (now (out .entry)) (each (λ _ e. missingEntry (bookOf (now (book .entry)) .keys) e) 0 (fsParents (bookOf (now (book .entry))))) r (now (out .exit)) ⌝ }
+    ensures few { λ r. ⌜ r ≤ n ⌝ }
+{
+    let mut found: usize = 0;
+    let mut i: usize = 0;
+    while i < n {
+        found = show_missing(book, h, at, work, n, i, out, found);
+        i += 1;
+    }
+    found
+}
+
+// The parent of a child, by the first n pairs, which are sorted.
+fn find_parent(book: &[u8], h: Header, at: Places, work: &[u64], n: usize, child: u64) -> MaybeU32
+    requires { ⌜ Opened (now book) h at × (2 * n ≤ length (now work)) × AllPairs childPair (now book) (h .keys) (at .keys) (pairsOf (now work) n) ⌝ }
+    ensures { λ r. ⌜ r ≡ maybeU32 (lookup child (fsParents (bookOf (now (book .entry))))) ⌝ }
+{
+    let found = maps::find_place(work, n, 0, child);
+    match found {
+        MaybeU64::Is(place) => MaybeU32::Is(fs_parent(book, place as usize)),
+        MaybeU64::Absent => MaybeU32::Absent,
+    }
+}
+
+// The finding of the key at byte p, if it is an entry and its child has another parent or is not there.
+fn show_wrong(
+    book: &[u8],
+    h: Header,
+    at: Places,
+    p: usize,
+    f: KeyFront,
+    work: &[u64],
+    n: usize,
+    out: &mut [u8],
+    m: usize,
+) -> usize
+    requires { ⌜ Opened (now book) h at × AtKey (now book) p f × (2 * n ≤ length (now work)) × AllPairs childPair (now book) (h .keys) (at .keys) (pairsOf (now work) n) × (m < 2 ^ 62) ⌝ }
+    ensures added { λ r. ⌜ Added (now (out .entry)) m (only (isEntry (keyAt (now (book .entry)) p)) (wrongEntry (keyAt (now (book .entry)) p) (lookup (keyAt (now (book .entry)) p .offset) (fsParents (bookOf (now (book .entry))))))) r (now (out .exit)) ⌝ }
+    ensures few { λ r. ⌜ r ≤ m + 1 ⌝ }
+{
+    if (f.btree == 19) & (f.key_type == 25) {
+        let inode = walk::key_inode(book, p, f);
+        let child = walk::key_offset(book, p, f);
+        let found = find_parent(book, h, at, work, n, child);
+        match found {
+            MaybeU32::Is(parent) => {
+                return emit_if(out, m, parent as u64 != inode, 38, child, parent as u64);
+            },
+            MaybeU32::Absent => return emit(out, m, 38, child, 0),
+        }
+    }
+    m
+}
+
+// The findings of the entries whose child has another parent or is not there, by the first n pairs, which are sorted.
+fn show_wrongs(book: &[u8], h: Header, at: Places, work: &[u64], n: usize, out: &mut [u8]) -> usize
+    requires { ⌜ Opened (now book) h at × (2 * n ≤ length (now work)) × AllPairs childPair (now book) (h .keys) (at .keys) (pairsOf (now work) n) ⌝ }
+    ensures found { λ r. ⌜ Found (now (out .entry)) (each (λ _ k. only (isEntry k) (wrongEntry k (lookup (k .offset) (fsParents (bookOf (now (book .entry))))))) 0 (bookOf (now (book .entry)) .keys)) r (now (out .exit)) ⌝ }
+    ensures few { λ r. ⌜ r ≤ h .keys ⌝ }
+{
+    let mut found: usize = 0;
+    let mut left = h.keys;
+    let mut p = at.keys;
+    while 0 < left {
+        let f = book::key_front(book, p);
+        found = show_wrong(book, h, at, p, f, work, n, out, found);
+        p = p + 28 + f.len;
+        left -= 1;
+    }
+    found
+}
+
+// The findings of both, by the first n pairs, which are sorted.
+fn show_children(
+    book: &[u8],
+    h: Header,
+    at: Places,
+    work: &[u64],
+    n: usize,
+    out: &mut [u8],
+) -> usize
+    requires { ⌜ Opened (now book) h at × (2 * n ≤ length (now work)) × (n ≤ h .keys) × AllPairs childPair (now book) (h .keys) (at .keys) (pairsOf (now work) n) ⌝ }
+    ensures found { λ r. ⌜ Found (now (out .entry)) (subvolumeChildren (bookOf (now (book .entry)))) r (now (out .exit)) ⌝ }
+    ensures few { λ r. ⌜ r ≤ 2 * h .keys ⌝ }
+{
+    let missing = show_missings(book, h, at, work, n, out);
+    let from = start_of(out.len(), missing);
+    missing + show_wrongs(book, h, at, work, n, &mut out[from..])
+}
+
+// The findings of subvolumes whose entry is missing, then of entries that are wrong.
+pub fn subvolume_children(
+    book: &[u8],
+    h: Header,
+    at: Places,
+    out: &mut [u8],
+    work: &mut [u64],
+) -> usize
+    requires { ⌜ Opened (now book) h at × (2 * h .keys ≤ length (now work)) ⌝ }
+    ensures found { λ r. ⌜ Found (now (out .entry)) (subvolumeChildren (bookOf (now (book .entry)))) r (now (out .exit)) ⌝ }
+    ensures few { λ r. ⌜ r ≤ 2 * h .keys ⌝ }
+{
+    let n = put_children(book, h, at, work);
+    pairs::sort_pairs(work, n);
+    show_children(book, h, at, work, n, out)
+}

@@ -1,0 +1,25 @@
+-- The one rule's findings, then the other's in the rest of the buffer.
+use Rattle.findings.proofs.Laws.{more-lent}
+use Rattle.snapshots.specs.Children.{subvolumeChildren}
+use borrow.Author.Needs.{needs}
+use native.Mathlib.Omega.{arith}
+use Rattle.snapshots.proofs.show_children.Statement.{statement}
+use Rattle.snapshots.proofs.show_children.Tie as tie
+
+returns : tie.Need-returns
+unfolding subvolumeChildren
+returns c = (more-lent (c .before .before .before .before .start-of .result) _ _ (c .before .before .before .before .start-of .ensures) (c .before .before .before .before .before .before .before .show-missings .ensures .0) (c .before .before .show-wrongs .ensures .0), omega (arith, c .before .before .before .before .before .before .before .show-missings .ensures .1, c .before .before .show-wrongs .ensures .1, c .before .before .before .before .before .before .before .before .before .before .before .before .pre .2))
+
+pub show-children-spec : {M : Type 1} → statement M
+show-children-spec =
+    tie.close
+    (tie.spec
+    (λ c κs. search needs)
+    (λ c κs. search needs)
+    (λ c. search needs)
+    (λ c. search needs)
+    (λ c. search needs)
+    (λ c κs. search needs)
+    (λ c. omega (arith, c .before .before .before .before .before .before .before .show-missings .ensures .1, c .before .before .show-wrongs .ensures .1, c .before .before .before .before .before .before .before .before .before .before .before .before))
+    (λ c. search needs)
+    returns)
