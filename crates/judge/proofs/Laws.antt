@@ -3,16 +3,21 @@ use Prim.Native.Nat.{ℕ, _+_, _-_, _<_}
 use mathlib.Core.Path.{_≡_, sym, ap, _∙_}
 use mathlib.Core.List.{List, _∷_, _++_, append-assoc}
 use lib.ListN.{length, take, drop}
-use Rattle.findings.specs.Findings.{Finding, start, Found}
+use Rattle.findings.specs.Findings.{Finding, start, Found, each}
 use Rattle.findings.proofs.Laws.{part, back, more-lent}
 use Rattle.book.specs.declared.Header.{Header}
 use Rattle.book.specs.declared.Places.{Places}
 use Rattle.book.specs.declared.KeyHead.{KeyHead}
-use Rattle.book.specs.Book.{keyHead, keyEnd, bkey, keyOf, keysFrom, bookOf}
+use Rattle.book.specs.Book.{keyHead, keyEnd, bkey, keyOf, keysFrom, Book, bookOf}
 use Rattle.book.specs.Walk.{Opened, KeysFit}
 use Rattle.book.proofs.Walk.{parts, step, value-part}
-use Rattle.rules.specs.Rules.{keyFindings}
-use Rattle.judge.specs.Steps.{keyRules}
+use Rattle.states.specs.Subvolumes.{subvolumeStates, snapshotClaims}
+use Rattle.states.specs.Snapshots.{snapshotStates}
+use Rattle.snapshots.specs.Flags.{snapshotSubvolFlags}
+use Rattle.snapshots.specs.Children.{subvolumeChildren}
+use Rattle.links.specs.Links.{snapshotLinks}
+use Rattle.rules.specs.Rules.{keyFindings, findingsOf}
+use Rattle.judge.specs.Steps.{keyRules, stateRules, snapshotRules, bucketRules, acrossRules}
 
 -- the same findings, said otherwise
 pub found-as : {o o′ : List ℕ} {r : ℕ} {fs gs : List Finding} → fs ≡ gs → Found o fs r o′ → Found o gs r o′
@@ -40,3 +45,15 @@ key-ends s p e = ap (λ (k : KeyHead). k .start + k .len) e
 -- a key after which those from its end on are left
 pub keys-next : (s : List ℕ) (n p : ℕ) {e : ℕ} → 0 < n → KeysFit s n p → e ≡ keyEnd s p → keysFrom s n p ≡ keyOf s (keyHead s p) ∷ keysFrom s (n - 1) e
 keys-next s n p h fit e = rw e (step s n p h fit .keys)
+
+-- the parts are the whole list
+pub list-of : (b : Book) → each (keyFindings b) 0 (b .keys) ++ acrossRules b ≡ findingsOf b
+unfolding acrossRules stateRules snapshotRules bucketRules findingsOf
+list-of b =
+    ap (λ (l : List Finding). each (keyFindings b) 0 (b .keys) ++ l)
+    (append-assoc (subvolumeStates b) (snapshotClaims b ++ snapshotStates b) (snapshotRules b ++ bucketRules b)
+    ∙ ap (λ (l : List Finding). subvolumeStates b ++ l)
+    (append-assoc (snapshotClaims b) (snapshotStates b) (snapshotRules b ++ bucketRules b)
+    ∙ ap (λ (l : List Finding). snapshotClaims b ++ (snapshotStates b ++ l))
+    (append-assoc (snapshotSubvolFlags b) (subvolumeChildren b ++ snapshotLinks b) (bucketRules b)
+    ∙ ap (λ (l : List Finding). snapshotSubvolFlags b ++ l) (append-assoc (subvolumeChildren b) (snapshotLinks b) (bucketRules b)))))

@@ -28,3 +28,7 @@ snapshotRules b = snapshotSubvolFlags b ++ (subvolumeChildren b ++ snapshotLinks
 
 unfoldable pub bucketRules : Book → List Finding
 bucketRules b = bucketGensAgainstAlloc b ++ freeSpace b
+
+-- the eight rules across keys
+unfoldable pub acrossRules : Book → List Finding
+acrossRules b = stateRules b ++ (snapshotRules b ++ bucketRules b)

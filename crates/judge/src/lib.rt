@@ -5,8 +5,14 @@ ghost use lib.ListN.{length};
 ghost use Rattle.findings.specs.Findings.{Found, each};
 ghost use Rattle.book.specs.Book.{bkey, bookOf};
 ghost use Rattle.book.specs.Walk.{Opened};
-ghost use Rattle.rules.specs.Rules.{keyFindings};
-ghost use Rattle.judge.specs.Steps.{keyRules, stateRules, bucketRules};
+ghost use Rattle.rules.specs.Rules.{keyFindings, findingsOf};
+ghost use Rattle.judge.specs.Steps.{
+  keyRules,
+  stateRules,
+  snapshotRules,
+  bucketRules,
+  acrossRules,
+};
 use book::Header;
 use book::KeyHead;
 use book::Places;
@@ -69,6 +75,19 @@ fn judge_states(book: &[u8], h: Header, at: Places, out: &mut [u8], work: &mut [
     b + states::snapshot_states(book, h, at, &mut out[from..], work)
 }
 
+// The rules on snapshots, their subvolumes and their trees.
+fn judge_snapshots(book: &[u8], h: Header, at: Places, out: &mut [u8], work: &mut [u64]) -> usize
+    requires { ⌜ Opened (now book) h at × (2 * h .keys ≤ length (now work)) ⌝ }
+    ensures found { λ r. ⌜ Found (now (out .entry)) (snapshotRules (bookOf (now (book .entry)))) r (now (out .exit)) ⌝ }
+    ensures few { λ r. ⌜ r ≤ h .keys * 11 ⌝ }
+{
+    let a = snapshots::snapshot_subvol_flags(book, h, at, out);
+    let from = start_of(out.len(), a);
+    let b = a + snapshots::subvolume_children(book, h, at, &mut out[from..], work);
+    let from = start_of(out.len(), b);
+    b + links::snapshot_links(book, h, at, &mut out[from..], work)
+}
+
 // The rules on buckets.
 fn judge_buckets(book: &[u8], h: Header, at: Places, out: &mut [u8], work: &mut [u64]) -> usize
     requires { ⌜ Opened (now book) h at × (2 * h .keys ≤ length (now work)) ⌝ }
@@ -78,4 +97,28 @@ fn judge_buckets(book: &[u8], h: Header, at: Places, out: &mut [u8], work: &mut 
     let n = buckets::bucket_gens_against_alloc(book, h, at, out, work);
     let from = start_of(out.len(), n);
     n + buckets::free_space(book, h, at, &mut out[from..], work)
+}
+
+// The eight rules across keys.
+fn judge_across(book: &[u8], h: Header, at: Places, out: &mut [u8], work: &mut [u64]) -> usize
+    requires { ⌜ Opened (now book) h at × (2 * h .keys ≤ length (now work)) ⌝ }
+    ensures found { λ r. ⌜ Found (now (out .entry)) (acrossRules (bookOf (now (book .entry)))) r (now (out .exit)) ⌝ }
+    ensures few { λ r. ⌜ r ≤ h .keys * 75172 + 196608 ⌝ }
+{
+    let a = judge_states(book, h, at, out, work);
+    let from = start_of(out.len(), a);
+    let b = a + judge_snapshots(book, h, at, &mut out[from..], work);
+    let from = start_of(out.len(), b);
+    b + judge_buckets(book, h, at, &mut out[from..], work)
+}
+
+// All rules: the full count of findings, which is below 2^32, and in the buffer those that fit.
+pub fn judge(book: &[u8], h: Header, at: Places, out: &mut [u8], work: &mut [u64]) -> usize
+    requires { ⌜ Opened (now book) h at × (2 * h .keys ≤ length (now work)) ⌝ }
+    ensures found { λ r. ⌜ Found (now (out .entry)) (findingsOf (bookOf (now (book .entry)))) r (now (out .exit)) ⌝ }
+    ensures few { λ r. ⌜ r < 2 ^ 32 ⌝ }
+{
+    let n = judge_keys(book, h, at, out);
+    let from = start_of(out.len(), n);
+    n + judge_across(book, h, at, &mut out[from..], work)
 }

@@ -9,7 +9,7 @@ use Rattle.judge.proofs.judge_buckets.Tie as tie
 
 returns : tie.Need-returns
 unfolding bucketRules
-returns c = 
+returns c =
     let one = c .before .before .before .before .before .before .before .before .before .before .before .before .bucket-gens-against-alloc in
     let two = c .before .before .before .before .free-space in
     let from = c .before .before .before .before .before .before .before .start-of in
