@@ -1,14 +1,21 @@
 -- What the answers of the calls below say.
-use Prim.Native.Nat.{ℕ, _+_, _≤_, _<_}
+use Prim.Native.Nat.{ℕ, _+_, _*_, _^_, _≤_, _<_}
 use mathlib.Core.Path.{_≡_, refl, sym, ap, _∙_}
-use mathlib.Core.Bool.{Bool, true, false}
+use mathlib.Core.Bool.{Bool, true, false, cond}
 use mathlib.Core.List.{List, [], _∷_, _++_, append-assoc, append-nil}
 use mathlib.Core.Option.{Option, none, some}
 use native.Mathlib.Omega.{arith}
 use lib.ListN.{length, drop, getD, set, replicate, length-replicate, replicate-append-replicate}
+use lib.Dec.{ltb}
 use lib.Seq.{set-at}
+use borrow.Author.Tests.{lt-ltb, le-ltb}
 use Rattle.findings.proofs.Walk.{drop-at, drop-past}
-use Rattle.book.specs.Book.{Book, parentsOf, bookOf}
+use Rattle.book.specs.declared.Header.{Header}
+use Rattle.book.specs.declared.Places.{Places}
+use Rattle.book.specs.Book.{parentsOf, bookOf}
+use Rattle.book.specs.Walk.{Opened}
+use Rattle.book.proofs.Walk.{parts}
+use Rattle.rules.specs.Rules.{findingsOf}
 use Rattle.book.specs.Refusals.{Outcome, parse}
 use Rattle.book.proofs.Bounds.{refused-bounds}
 use Rattle.parents.specs.declared.Root.{Root}
@@ -16,11 +23,11 @@ use Rattle.parents.specs.declared.Root.the-variants as root
 use Rattle.parents.specs.Roots.{rootOf}
 use Rattle.parents.specs.Answers.{rootIs, ancestorsOf}
 use Rattle.parents.proofs.Laws.{root-at, root-none, len-le, root-len}
-use Rattle.dockwrench.specs.declared.Ancestor.{Ancestor}
+use Rattle.dockwrench.specs.declared.Checked.{Checked}
+use Rattle.dockwrench.specs.declared.Checked.the-variants as checked
 use Rattle.dockwrench.specs.declared.Ancestor.the-variants as ancestor
-use Rattle.dockwrench.specs.declared.Availability.{Availability}
 use Rattle.dockwrench.specs.declared.Availability.the-variants as availability
-use Rattle.dockwrench.specs.Answers.{ancestorBy, ancestorOf, availabilityBy, availabilityOf}
+use Rattle.dockwrench.specs.Answers.{workShort, zeros, countIn, checkBook, checkOf, checkedAnswer, ancestorBy, ancestorOf, availabilityBy, availabilityOf}
 
 -- a root is at most 1,024 links away
 pub few-links : (t : List (ℕ × ℕ)) (id : ℕ) {r : ℕ × ℕ} → rootOf t id ≡ some r → r .1 ≤ 1024
@@ -84,7 +91,65 @@ zeroed-more w i e h =
     ∙ sym (append-assoc (replicate i 0) (0 ∷ []) (drop (i + 1) w))
     ∙ ap (λ (l : List ℕ). l ++ drop (i + 1) w) (replicate-append-replicate i 1 0))
 
-pub zeroed-all : (w : List ℕ) (i : ℕ) {v : List ℕ} → v ≡ replicate i 0 ++ drop i w → length w ≤ i → i ≤ length w → v ≡ replicate (length w) 0
+pub zeroed-all : (w : List ℕ) (i : ℕ) {v : List ℕ} → v ≡ replicate i 0 ++ drop i w → length w ≤ i → i ≤ length w → v ≡ zeros (length w)
+unfolding zeros
 zeroed-all w i e h k =
     let same : i ≡ length w = omega arith in
     rw (e, drop-past w i h, append-nil {A = ℕ} (replicate i 0)) (ap (λ (n : ℕ). replicate n 0) same)
+
+-- the answers of the main call
+pub short-is : {s : List ℕ} {h : Header} {at : Places} {words : ℕ} → Opened s h at → words < 2 * h .keys → workShort (bookOf s) words ≡ true
+unfolding workShort
+short-is {h = h} {words = words} o e = rw (parts o .header) (lt-ltb words (2 * h .keys) e)
+
+pub short-not : {s : List ℕ} {h : Header} {at : Places} {words : ℕ} → Opened s h at → 2 * h .keys ≤ words → workShort (bookOf s) words ≡ false
+unfolding workShort
+short-not {h = h} {words = words} o e = rw (parts o .header) (le-ltb words (2 * h .keys) e)
+
+pub zeros-as : (n m : ℕ) {w : List ℕ} → w ≡ zeros n → n ≡ m → w ≡ zeros m
+zeros-as n m e h = e ∙ ap zeros h
+
+pub room-short : (room count : ℕ) → room < 17 * count → checked.NoRoom count ≡ countIn room count
+unfolding countIn
+room-short room count h = rw (lt-ltb room (17 * count) h)
+
+pub room-enough : (room count : ℕ) → 17 * count ≤ room → checked.Found count ≡ countIn room count
+unfolding countIn
+room-enough room count h = rw (le-ltb room (17 * count) h)
+
+pub count-few : (room count : ℕ) {a : Checked} → a ≡ countIn room count → count < 2 ^ 32 → checkedAnswer a .count < 2 ^ 32
+unfolding countIn checkedAnswer
+count-few room count e h = rw e (go (ltb room (17 * count)))
+  where
+    go : (b : Bool) → checkedAnswer (cond b (checked.NoRoom count) (checked.Found count)) .count < 2 ^ 32
+    go true = h
+    go false = h
+
+pub found-few : {a : Checked} {n : ℕ} → a ≡ checked.Found n → checkedAnswer a .count < 2 ^ 32 → n < 2 ^ 32
+unfolding checkedAnswer
+found-few e h = rw e at h
+
+pub room-few : {a : Checked} {n : ℕ} → a ≡ checked.NoRoom n → checkedAnswer a .count < 2 ^ 32 → n < 2 ^ 32
+unfolding checkedAnswer
+room-few e h = rw e at h
+
+count-no-refusal : (b : Bool) (n : ℕ) {m p : ℕ} {A : Type 0} → cond b (checked.NoRoom n) (checked.Found n) ≡ checked.Refused m p → A
+count-no-refusal true n e = let z : _≡_ {A = ℕ} 0 1 = cc in absurd (omega arith)
+count-no-refusal false n e = let z : _≡_ {A = ℕ} 0 1 = cc in absurd (omega arith)
+
+nine : (b : Bool) (room n : ℕ) {m p : ℕ} → cond b (checked.Refused 9 0) (countIn room n) ≡ checked.Refused m p → (m ≤ 9) × (p ≤ 1048576)
+unfolding countIn
+nine true room n {m} {p} e = let x : 9 ≡ m = cc in let y : 0 ≡ p = cc in (omega arith, omega arith)
+nine false room n e = count-no-refusal (ltb room (17 * n)) n e
+
+bounds-by : (s : List ℕ) (room words : ℕ) (o : Outcome) → parse s ≡ o → {m p : ℕ} → checkOf o room words ≡ checked.Refused m p → (m ≤ 9) × (p ≤ 1048576)
+unfolding checkOf checkBook
+bounds-by s room words (Outcome.accepted b) is e = nine (workShort b words) room (length (findingsOf b)) e
+bounds-by s room words (Outcome.refused n q) is {m} {p} e =
+    let x : n ≡ m = cc in
+    let y : q ≡ p = cc in
+    let b = refused-bounds s is in
+    (omega (arith, b .0), omega (arith, b .1))
+
+pub check-bounds : (s : List ℕ) (room words : ℕ) {m p : ℕ} → checkOf (parse s) room words ≡ checked.Refused m p → (m ≤ 9) × (p ≤ 1048576)
+check-bounds s room words e = bounds-by s room words (parse s) refl e

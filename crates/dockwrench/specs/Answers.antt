@@ -25,24 +25,36 @@ use Rattle.dockwrench.specs.declared.Availability.the-variants as availa
 unfoldable pub workShort : Book → ℕ → Bool
 workShort b words = ltb words (2 * b .header .keys)
 
--- the answer over a buffer of `room` bytes and a work area of `words` words: 9; "10: findings exceed the buffer", with the full count; or the count
-unfoldable pub checkBook : Book → ℕ → ℕ → Checked
-checkBook b room words =
-    let count = length (findingsOf b) in
-    cond (workShort b words) (checked.Refused 9 0) (cond (ltb room (17 * count)) (checked.NoRoom count) (checked.Found count))
+-- over a buffer of `room` bytes: "10: findings exceed the buffer", with the full count, or the count
+unfoldable pub countIn : ℕ → ℕ → Checked
+countIn room count = cond (ltb room (17 * count)) (checked.NoRoom count) (checked.Found count)
 
-unfoldable pub check : Outcome → ℕ → ℕ → Checked
-check (Outcome.accepted b) room words = checkBook b room words
-check (Outcome.refused number place) room words = checked.Refused number place
+-- 9 for a work area of `words` words that is short, or the count
+unfoldable pub checkBook : Book → ℕ → ℕ → Checked
+checkBook b room words = cond (workShort b words) (checked.Refused 9 0) (countIn room (length (findingsOf b)))
+
+-- the answer of the main call
+unfoldable pub checkOf : Outcome → ℕ → ℕ → Checked
+checkOf (Outcome.accepted b) room words = checkBook b room words
+checkOf (Outcome.refused number place) room words = checked.Refused number place
 
 -- the buffer: untouched by refusals 1 to 9; else "the whole findings that fit, from the first, other bytes untouched"
+unfoldable pub bookBuffer : Book → ℕ → List ℕ → List ℕ
+bookBuffer b words buffer = cond (workShort b words) buffer (put buffer (findingsOf b))
+
 unfoldable pub bufferAfter : Outcome → ℕ → List ℕ → List ℕ
-bufferAfter (Outcome.accepted b) words buffer = cond (workShort b words) buffer (put buffer (findingsOf b))
+bufferAfter (Outcome.accepted b) words buffer = bookBuffer b words buffer
 bufferAfter (Outcome.refused number place) words buffer = buffer
 
 -- the work area: untouched by refusals 1 to 9; else "every work word zero"
+unfoldable pub zeros : ℕ → List ℕ
+zeros n = replicate n 0
+
+unfoldable pub bookWork : Book → List ℕ → List ℕ
+bookWork b work = cond (workShort b (length work)) work (zeros (length work))
+
 unfoldable pub workAfter : Outcome → List ℕ → List ℕ
-workAfter (Outcome.accepted b) work = cond (workShort b (length work)) work (replicate (length work) 0)
+workAfter (Outcome.accepted b) work = bookWork b work
 workAfter (Outcome.refused number place) work = work
 
 -- THE QUESTIONS

@@ -1,13 +1,24 @@
 // The main call, the two questions, and their C entries.
 ghost use mathlib.Core.Path.{_≡_};
 ghost use Prim.Native.Nat.{_+_, _*_, _^_, _<_, _≤_};
-ghost use lib.ListN.{length, replicate};
+ghost use lib.ListN.{length};
+ghost use Rattle.findings.specs.Findings.{Found};
+ghost use Rattle.rules.specs.Rules.{findingsOf};
 ghost use Rattle.book.specs.Book.{bookOf, parentsOf};
 ghost use Rattle.book.specs.Refusals.{parse};
 ghost use Rattle.book.specs.Walk.{Opened};
 ghost use Rattle.parents.specs.Roots.{rootOf};
 ghost use Rattle.states.specs.Subvolumes.{isUnavailable};
 ghost use Rattle.dockwrench.specs.Answers.{
+  countIn,
+  checkBook,
+  checkOf,
+  bookBuffer,
+  zeros,
+  bookWork,
+  bufferAfter,
+  workAfter,
+  checkedAnswer,
   ancestorBy,
   ancestorOf,
   availabilityBy,
@@ -45,12 +56,65 @@ pub enum Availability {
 
 // Every word zero.
 fn zero_words(work: &mut [u64])
-    ensures { λ _. ⌜ now (work .exit) ≡ replicate (length (now (work .entry))) 0 ⌝ }
+    ensures { λ _. ⌜ now (work .exit) ≡ zeros (length (now (work .entry))) ⌝ }
 {
     let mut i: usize = 0;
     while i < work.len() {
         work[i] = 0;
         i += 1;
+    }
+}
+
+// All rules over an accepted book and a work area that is long enough, which is zeroed then.
+fn check_all(book: &[u8], h: Header, at: Places, findings: &mut [u8], work: &mut [u64]) -> usize
+    requires { ⌜ Opened (now book) h at × (2 * h .keys ≤ length (now work)) ⌝ }
+    ensures found { λ r. ⌜ Found (now (findings .entry)) (findingsOf (bookOf (now (book .entry)))) r (now (findings .exit)) ⌝ }
+    ensures work { λ _. ⌜ now (work .exit) ≡ zeros (length (now (work .entry))) ⌝ }
+    ensures few { λ r. ⌜ r < 2 ^ 32 ⌝ }
+{
+    let count = judge::judge(book, h, at, findings, work);
+    zero_words(work);
+    count
+}
+
+// The count of findings, and whether a buffer holds them all.
+fn count_in(room: usize, count: usize) -> Checked
+    requires { ⌜ count < 2 ^ 32 ⌝ }
+    ensures { λ r. ⌜ r ≡ countIn room count ⌝ }
+{
+    if room < 17 * count {
+        return Checked::NoRoom(count);
+    }
+    Checked::Found(count)
+}
+
+// The main call over an accepted book.
+fn check_book(book: &[u8], h: Header, at: Places, findings: &mut [u8], work: &mut [u64]) -> Checked
+    requires { ⌜ Opened (now book) h at ⌝ }
+    ensures answer { λ r. ⌜ r ≡ checkBook (bookOf (now (book .entry))) (length (now (findings .entry))) (length (now (work .entry))) ⌝ }
+    ensures buffer { λ _. ⌜ now (findings .exit) ≡ bookBuffer (bookOf (now (book .entry))) (length (now (work .entry))) (now (findings .entry)) ⌝ }
+    ensures work { λ _. ⌜ now (work .exit) ≡ bookWork (bookOf (now (book .entry))) (now (work .entry)) ⌝ }
+    ensures few { λ r. ⌜ checkedAnswer r .count < 2 ^ 32 ⌝ }
+{
+    if work.len() < 2 * (h.keys as usize) {
+        return Checked::Refused(9, 0);
+    }
+    let room = findings.len();
+    let count = check_all(book, h, at, findings, work);
+    count_in(room, count)
+}
+
+// The main call.
+pub fn check(book: &[u8], findings: &mut [u8], work: &mut [u64]) -> Checked
+    ensures answer { λ r. ⌜ r ≡ checkOf (parse (now (book .entry))) (length (now (findings .entry))) (length (now (work .entry))) ⌝ }
+    ensures buffer { λ _. ⌜ now (findings .exit) ≡ bufferAfter (parse (now (book .entry))) (length (now (work .entry))) (now (findings .entry)) ⌝ }
+    ensures work { λ _. ⌜ now (work .exit) ≡ workAfter (parse (now (book .entry))) (now (work .entry)) ⌝ }
+    ensures few { λ r. ⌜ checkedAnswer r .count < 2 ^ 32 ⌝ }
+{
+    let s = book::scan(book);
+    match s {
+        Scanned::Accepted { header, places } => check_book(book, header, places, findings, work),
+        Scanned::Refused(number, place) => Checked::Refused(number, place),
     }
 }
 
@@ -105,6 +169,21 @@ fn pack(number: usize, place: usize, count: usize) -> u64
     ensures { λ r. ⌜ r ≡ packed (record { number = number; place = place; count = count }) ⌝ }
 {
     (number as u64) * 0x100_0000_0000_0000 + (place as u64) * 0x1_0000_0000 + (count as u64)
+}
+
+// The main call for C.
+#[no_mangle]
+pub extern "C" fn dockwrench_check(book: &[u8], findings: &mut [u8], work: &mut [u64]) -> u64
+    ensures answer { λ r. ⌜ r ≡ packed (checkedAnswer (checkOf (parse (now (book .entry))) (length (now (findings .entry))) (length (now (work .entry))))) ⌝ }
+    ensures buffer { λ _. ⌜ now (findings .exit) ≡ bufferAfter (parse (now (book .entry))) (length (now (work .entry))) (now (findings .entry)) ⌝ }
+    ensures work { λ _. ⌜ now (work .exit) ≡ workAfter (parse (now (book .entry))) (now (work .entry)) ⌝ }
+{
+    let answer = check(book, findings, work);
+    match answer {
+        Checked::Found(count) => pack(0, 0, count),
+        Checked::NoRoom(count) => pack(10, 0, count),
+        Checked::Refused(number, place) => pack(number, place, 0),
+    }
 }
 
 // The ancestor question for C.

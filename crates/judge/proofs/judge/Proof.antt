@@ -8,7 +8,7 @@ use Rattle.judge.proofs.judge.Statement.{statement}
 use Rattle.judge.proofs.judge.Tie as tie
 
 returns : tie.Need-returns
-returns c = 
+returns c =
     let one = c .before .before .before .before .before .before .before .before .before .before .judge-keys in
     let two = c .before .before .before .before .judge-across in
     let from = c .before .before .before .before .before .before .before .start-of in

@@ -14,7 +14,7 @@ returns c =
     let two = c .before .before .before .before .before .before .before .before .before .before .before .before .subvolume-children in
     let three = c .before .before .before .before .snapshot-links in (
       three-lent (c .before .before .before .before .before .before .before .before .before .before .before .before .before .before .before .start-of .result) (c .before .before .before .before .before .before .before .start-of2 .result) (one .result) (two .result) (three .result) (c .before .before .before .before .before .before .before .before .before .before .before .before .before .before .before .start-of .ensures) (c .before .before .before .before .before .before .before .start-of2 .ensures)
-      (one .ensures .0) (two .ensures .0) (three .ensures .0),
+          (one .ensures .0) (two .ensures .0) (three .ensures .0),
       omega (arith, one .ensures .1, two .ensures .1, three .ensures .1),
     )
 

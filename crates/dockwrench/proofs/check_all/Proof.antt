@@ -1,0 +1,21 @@
+-- All rules, then every word zero.
+use denote.Ref.{now}
+use lib.ListN.{length}
+use Rattle.dockwrench.proofs.Laws.{zeros-as}
+use borrow.Author.Needs.{needs}
+use native.Mathlib.Omega.{arith}
+use Rattle.dockwrench.proofs.check_all.Statement.{statement}
+use Rattle.dockwrench.proofs.check_all.Tie as tie
+
+returns : tie.Need-returns
+returns c = (c .before .before .before .before .before .before .before .before .judge .ensures .0, (zeros-as _ (length (now (c .before .before .before .before .before .before .before .before .before .before .before .before .before .before .args .work))) (c .before .before .zero-words .ensures) (search needs), c .before .before .before .before .before .before .before .before .judge .ensures .1))
+
+pub check-all-spec : {M : Type 1} → statement M
+check-all-spec =
+    tie.close
+    (tie.spec
+    (λ c κs. search needs)
+    (λ c κs. search needs)
+    (λ c. search needs)
+    (λ c. search needs)
+    returns)
