@@ -60,13 +60,13 @@ pub fn snapshot_subvol_flags(book: &[u8], h: Header, at: Places, out: &mut [u8])
     ensures few { λ r. ⌜ r ≤ h .keys ⌝ }
 {
     let mut n: usize = 0;
-    let mut left = h.keys;
+    let mut keys = h.keys;
     let mut p = at.keys;
-    while 0 < left {
+    while 0 < keys {
         let f = book::key_front(book, p);
         n = show_flag(book, p, f, out, n);
         p = p + 28 + f.len;
-        left -= 1;
+        keys -= 1;
     }
     n
 }

@@ -15,4 +15,4 @@ fs-parent-spec =
     (tie.spec
     (λ c κs. search needs)
     (λ c κs. (at c, omega (arith, parent-word (at c) (c .before .before .pre .parent))))
-    (λ c. search needs))
+    (λ c. c .key-word .ensures))

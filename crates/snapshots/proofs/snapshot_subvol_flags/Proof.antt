@@ -1,5 +1,5 @@
 -- The walk over the keys finds what each gives.
-use Prim.Native.Nat.{_+_, _≤_}
+use Prim.Native.Nat.{_+_, _≤_, _<_}
 use Rattle.findings.specs.Findings.{each}
 use Rattle.findings.proofs.Walk.{Begun, first, turn, last, each-none, begun-length}
 use Rattle.book.specs.Book.{keysFrom}
@@ -13,10 +13,10 @@ use Rattle.snapshots.proofs.snapshot_subvol_flags.Statement.{statement}
 use Rattle.snapshots.proofs.snapshot_subvol_flags.Tie as tie
 
 abbrev Inv-loop : tie.InvT-loop
-Inv-loop book out₀ n₀ left₀ p₀ out n left p = KeysFit book left p × (n + left ≤ left₀) × Begun (each (λ _ k. flagFindings k) 0 (keysFrom book left₀ p₀)) out₀ (each (λ _ k. flagFindings k) 0 (keysFrom book left p)) n out
+Inv-loop book out₀ n₀ keys₀ p₀ out n keys p = KeysFit book keys p × (n + keys ≤ keys₀) × Begun (each (λ _ k. flagFindings k) 0 (keysFrom book keys₀ p₀)) out₀ (each (λ _ k. flagFindings k) 0 (keysFrom book keys p)) n out
 
 abbrev μ-loop : tie.MeasureT-loop
-μ-loop book out₀ n₀ left₀ p₀ out n left p = left
+μ-loop book out₀ n₀ keys₀ p₀ out n keys p = keys
 
 loop-again : tie.Need-loop-again Inv-loop μ-loop
 loop-again c =
@@ -26,18 +26,18 @@ loop-again c =
     let loop = turning .before in
     let start = loop .before .before .before in
     let fit = loop .loop .inv .0 in
-    let some = turning .loop-test .taken in
+    let some : 0 < loop .loop .keys = omega (arith, turning .loop-test .taken) in
     let ends = at-end (at-key (parts (start .pre) .small) some fit (read .key-front .ensures)) in (
-      rw ends (step (start .args .book .now) (loop .loop .left) (loop .loop .p) some fit .rest),
+      rw ends (step (start .args .book .now) (loop .loop .keys) (loop .loop .p) some fit .rest),
       omega (arith, loop .loop .inv .1, shown .show-flag .ensures .1, some),
-      turn (loop .loop .inv .2) (shown .show-flag .ensures .0) (key-next flagFindings (start .args .book .now) (loop .loop .left) (loop .loop .p) some fit ends),
+      turn (loop .loop .inv .2) (shown .show-flag .ensures .0) (key-next flagFindings (start .args .book .now) (loop .loop .keys) (loop .loop .p) some fit ends),
     )
 
 returns : tie.Need-returns Inv-loop μ-loop
 unfolding snapshotSubvolFlags
 returns c =
     let start = c .before .before .before .before in
-    let done = each-none (λ _ k. flagFindings k) 0 (no-keys (start .args .book .now) (c .before .loop .p) {n = c .before .loop .left} (omega arith)) in
+    let done = each-none (λ _ k. flagFindings k) 0 (no-keys (start .args .book .now) (c .before .loop .p) {n = c .before .loop .keys} (omega arith)) in
     (rw (parts (start .pre) .keys) (last (c .before .loop .inv .2) done), omega arith)
 
 pub snapshot-subvol-flags-spec : {M : Type 1} → statement M
