@@ -148,7 +148,14 @@ fn show_backref(
 {
     let subvolume = walk::key_word(book, p, f, 16);
     let other = is_other(snapshot_of(book, h, at, subvolume), id);
-    emit_if(out, m, (subvolume != 0) & other, 43, id as u64, subvolume as u64)
+    emit_if(
+        out,
+        m,
+        (subvolume != 0) & other,
+        43,
+        id as u64,
+        subvolume as u64,
+    )
 }
 
 // The findings of a snapshot's two children.
@@ -440,14 +447,7 @@ fn show_pair(
 }
 
 // The findings of the trees, in id order.
-fn show_trees(
-    book: &[u8],
-    h: Header,
-    at: Places,
-    work: &[u64],
-    n: usize,
-    out: &mut [u8],
-) -> usize
+fn show_trees(book: &[u8], h: Header, at: Places, work: &[u64], n: usize, out: &mut [u8]) -> usize
     requires { ⌜ Ready (now book) h at (now work) n ⌝ }
     ensures found { λ r. ⌜ Found (now (out .entry)) (each (λ _ e. treeFindings (bookOf (now (book .entry))) e) 0 (treeMap (bookOf (now (book .entry))))) r (now (out .exit)) ⌝ }
     ensures few { λ r. ⌜ r ≤ n * 2 ⌝ }
@@ -473,13 +473,7 @@ fn show_all(book: &[u8], h: Header, at: Places, work: &[u64], n: usize, out: &mu
 }
 
 // The findings of links between snapshots and their trees, if the snapshot_trees btree is present.
-pub fn snapshot_links(
-    book: &[u8],
-    h: Header,
-    at: Places,
-    out: &mut [u8],
-    work: &mut [u64],
-) -> usize
+pub fn snapshot_links(book: &[u8], h: Header, at: Places, out: &mut [u8], work: &mut [u64]) -> usize
     requires { ⌜ Opened (now book) h at × (2 * h .keys ≤ length (now work)) ⌝ }
     ensures found { λ r. ⌜ Found (now (out .entry)) (snapshotLinks (bookOf (now (book .entry)))) r (now (out .exit)) ⌝ }
     ensures few { λ r. ⌜ r ≤ h .keys * 8 ⌝ }
