@@ -96,7 +96,7 @@ pub child-kinds : (b : Book) → Within (37 ∷ 38 ∷ []) (subvolumeChildren b)
 unfolding has subvolumeChildren missingEntry
 child-kinds b = search (within, entry-kinds) depth 24
 
-link-kinds : (b : Book) → Within linkKinds (snapshotLinks b)
+pub link-kinds : (b : Book) → Within linkKinds (snapshotLinks b)
 unfolding has snapshotLinks treeFindings linkFindings rootFindings backrefFindings childFindings skipFindings
 link-kinds b = search (within, master-kinds) depth 24
 
