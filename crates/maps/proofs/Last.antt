@@ -167,9 +167,9 @@ module _ (w : List ℕ) (n : ℕ) (i : ℕ) (l : i < n) (small : (k : ℕ) → g
   place-at = omega (arith, second w n small i l)
 
   -- whether it is the last of its number
-  pub last-is : (which : ℕ) → isFor which (getD w (2 * i) 0) (pairAt w i) && not (goesOn which (getD w (2 * i) 0) (drop (i + 1) (pairsOf w n))) ≡ lastAt which (drop i (pairsOf w n))
+  pub last-is : (which : ℕ) {a b : Bool} → a ≡ isFor which (getD w (2 * i) 0) (pairAt w i) → b ≡ goesOn which (getD w (2 * i) 0) (drop (i + 1) (pairsOf w n)) → a && not b ≡ lastAt which (drop i (pairsOf w n))
   unfolding lastAt isFor
-  last-is which = rw (← pairs-at w n i l, left-at w n i l, number-at, eq-eqb (getD w (2 * i) 0) (getD w (2 * i) 0) refl)
+  last-is which own more = rw (own, more, ← pairs-at w n i l, left-at w n i l, number-at, eq-eqb (getD w (2 * i) 0) (getD w (2 * i) 0) refl)
 
   -- what is left from it on
   pub places-next : (which : ℕ) → lastPlaces which (drop i (pairsOf w n))

@@ -138,6 +138,20 @@ keep-parts which number (x ∷ xs) = by (eqb (numberIn x) number) (eqb (whichIn 
 
 -- ---- the last pair of a map with a number
 module _ (which number : ℕ) where
+  -- there is none
+  pub last-none : (xs : List ℕ) → ((k : ℕ) → k < length xs → isFor which number (getD xs k 0) ≡ false) → lastPlace which number xs ≡ Absent
+  unfolding lastPlace orElse
+  last-none [] h = refl
+  last-none (x ∷ xs) h = rw (last-none xs (λ k l. h (suc k) (suc-le-suc l)), h zero (suc-le-suc zero-le))
+
+  -- the one at j, where none comes after it
+  pub last-here : (xs : List ℕ) (j : ℕ) → j < length xs → isFor which number (getD xs j 0) ≡ true
+      → ((k : ℕ) → j < k → k < length xs → isFor which number (getD xs k 0) ≡ false) → lastPlace which number xs ≡ Is (placeIn (getD xs j 0))
+  unfolding lastPlace orElse
+  last-here [] j l e h = absurd (not-suc-le-zero l)
+  last-here (x ∷ xs) zero l e h = rw (last-none xs (λ k l. h (suc k) (suc-le-suc zero-le) (suc-le-suc l)), e)
+  last-here (x ∷ xs) (suc j) l e h = rw (last-here xs j (le-of-suc-le-suc l) e (λ k a b. h (suc k) (suc-le-suc a) (suc-le-suc b)))
+
   or-absent : (a : MaybeU64) → orElse a Absent ≡ a
   unfolding orElse
   or-absent (Is x) = refl
@@ -156,20 +170,6 @@ module _ (which number : ℕ) where
       (λ t. rw t (rw t (ap (λ (m : MaybeU64). orElse m (Is (placeIn x))) (last-kept xs))))
       (λ t. rw t (last-kept xs ∙ sym (or-absent (lastPlace which number xs))))
       (tested (isFor which number x))
-
-  -- none
-  pub last-none : (xs : List ℕ) → ((k : ℕ) → k < length xs → isFor which number (getD xs k 0) ≡ false) → lastPlace which number xs ≡ Absent
-  unfolding lastPlace orElse
-  last-none [] h = refl
-  last-none (x ∷ xs) h = rw (last-none xs (λ k l. h (suc k) (suc-le-suc l)), h zero (suc-le-suc zero-le))
-
-  -- the one at j, where none comes after it
-  pub last-here : (xs : List ℕ) (j : ℕ) → j < length xs → isFor which number (getD xs j 0) ≡ true
-      → ((k : ℕ) → j < k → k < length xs → isFor which number (getD xs k 0) ≡ false) → lastPlace which number xs ≡ Is (placeIn (getD xs j 0))
-  unfolding lastPlace orElse
-  last-here [] j l e h = absurd (not-suc-le-zero l)
-  last-here (x ∷ xs) zero l e h = rw (last-none xs (λ k l. h (suc k) (suc-le-suc zero-le) (suc-le-suc l)), e)
-  last-here (x ∷ xs) (suc j) l e h = rw (last-here xs j (le-of-suc-le-suc l) e (λ k a b. h (suc k) (suc-le-suc a) (suc-le-suc b)))
 
   -- what holds of the place of each of them holds of the last's
   pub last-holds : (P : ℕ → Type 0) (xs : List ℕ) → ((y : ℕ) → 0 < count y xs → isFor which number y ≡ true → P (placeIn y))

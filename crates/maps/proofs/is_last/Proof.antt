@@ -1,6 +1,4 @@
 -- The pair itself, and the one after it.
-use mathlib.Core.Path.{ap₂, _∙_}
-use mathlib.Core.Bool.{Bool, not, _&&_}
 use Rattle.maps.proofs.Last.{last-is}
 use borrow.Author.Needs.{needs}
 use Rattle.maps.proofs.is_last.Statement.{statement}
@@ -10,8 +8,7 @@ returns : tie.Need-returns
 returns c =
     let t = c .before in
     let s = t .before .before .before in
-    ap₂ (λ (a b : Bool). a && not b) (t .is-for .ensures) (c .goes-on .ensures)
-    ∙ last-is (s .args .w .now) (s .args .n) (s .args .i) (s .pre .1) (λ k. t .before .shared-slice-known2 .given k .fits) (s .args .which)
+    last-is (s .args .w .now) (s .args .n) (s .args .i) (s .pre .1) (λ k. t .before .shared-slice-known2 .given k .fits) (s .args .which) (t .is-for .ensures) (c .goes-on .ensures)
 
 pub is-last-spec : {M : Type 1} → statement M
 is-last-spec =
