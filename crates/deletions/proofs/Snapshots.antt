@@ -1,18 +1,18 @@
 -- The three sets that the code looks up are those that the rule asks for.
-use Prim.Native.Nat.{ℕ, zero, suc, _/_, _^_, _≤_}
+use Prim.Native.Nat.{ℕ, _/_, _^_, _≤_}
 use mathlib.Core.Path.{_≡_, refl, sym, ap₂, _∙_}
 use mathlib.Core.Bool.{Bool, true, false, true≢false, cond, not, _&&_, _||_}
 use mathlib.Core.List.{List, [], _∷_, _++_}
 use native.Mathlib.Omega.{arith}
 use lib.ListN.{length}
 use lib.Dec.{eqb, leb}
-use borrow.Author.Tests.{eq-eqb, ne-eqb, eqb-true}
+use borrow.Author.Tests.{eq-eqb, ne-eqb}
 use Rattle.bits.specs.Bits.{leAt}
 use Rattle.findings.specs.Findings.{finding, when, only, each, bytesOf}
 use Rattle.pairs.specs.Pairs.{pair, sort, has}
 use Rattle.pairs.proofs.Bounds.{has-sort}
 use Rattle.book.specs.declared.KeyFront.{KeyFront}
-use Rattle.book.specs.Book.{Bkey, Book, is, keyEnd, keysFrom}
+use Rattle.book.specs.Book.{Bkey, Book, is, keysFrom}
 use Rattle.states.specs.Distance.{snapLive, snapWillDelete, snapNoKeys, snapDeleted, subvolLive}
 use Rattle.deletions.specs.Snapshots.{hasSnapState, snapState, liveSnapshot, liveSubvolume, accountedId, accounted, liveChild, subvolumeIsLive, snapshotStateFindings, snapshotStates}
 use Rattle.walk.specs.Keys.{keyAt, AtKey, gather, anyKey}

@@ -1,7 +1,7 @@
 -- The rule `snapshot_states` (document 01, kinds 33 to 35).
 use Prim.Native.Nat.{ℕ, _/_, _^_}
-use mathlib.Core.Bool.{Bool, false, not, _&&_, _||_}
-use mathlib.Core.List.{List, [], _∷_, _++_}
+use mathlib.Core.Bool.{Bool, not, _&&_, _||_}
+use mathlib.Core.List.{List, _++_}
 use lib.ListN.{length}
 use lib.Dec.{eqb, leb}
 use Rattle.bits.specs.Bits.{leAt}
