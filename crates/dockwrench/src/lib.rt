@@ -8,7 +8,7 @@ ghost use Rattle.book.specs.Book.{bookOf, parentsOf};
 ghost use Rattle.book.specs.Refusals.{parse};
 ghost use Rattle.book.specs.Walk.{Opened};
 ghost use Rattle.parents.specs.Roots.{rootOf};
-ghost use Rattle.states.specs.Subvolumes.{isUnavailable};
+ghost use Rattle.subvolumes.specs.Subvolumes.{isUnavailable};
 ghost use Rattle.dockwrench.specs.Answers.{
   countIn,
   checkBook,
@@ -146,7 +146,7 @@ fn is_available(book: &[u8], h: Header, at: Places, id: u32) -> Availability
     requires { ⌜ Opened (now book) h at ⌝ }
     ensures { λ r. ⌜ r ≡ availabilityBy (isUnavailable id (bookOf (now (book .entry)) .keys)) ⌝ }
 {
-    if states::is_unavailable(book, h, at, id) {
+    if subvolumes::is_unavailable(book, h, at, id) {
         return Availability::Unavailable;
     }
     Availability::Available

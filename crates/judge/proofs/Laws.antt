@@ -11,8 +11,8 @@ use Rattle.book.specs.declared.KeyHead.{KeyHead}
 use Rattle.book.specs.Book.{keyHead, keyEnd, bkey, keyOf, keysFrom, Book, bookOf}
 use Rattle.book.specs.Walk.{Opened, KeysFit}
 use Rattle.book.proofs.Walk.{parts, step, value-part}
-use Rattle.states.specs.Subvolumes.{subvolumeStates, snapshotClaims}
-use Rattle.states.specs.Snapshots.{snapshotStates}
+use Rattle.subvolumes.specs.Subvolumes.{subvolumeStates, snapshotClaims}
+use Rattle.deletions.specs.Snapshots.{snapshotStates}
 use Rattle.snapshots.specs.Flags.{snapshotSubvolFlags}
 use Rattle.snapshots.specs.Children.{subvolumeChildren}
 use Rattle.links.specs.Links.{snapshotLinks}

@@ -68,11 +68,11 @@ fn judge_states(book: &[u8], h: Header, at: Places, out: &mut [u8], work: &mut [
     ensures found { λ r. ⌜ Found (now (out .entry)) (stateRules (bookOf (now (book .entry)))) r (now (out .exit)) ⌝ }
     ensures few { λ r. ⌜ r ≤ h .keys * 74903 ⌝ }
 {
-    let a = states::subvolume_states(book, h, at, out, work);
+    let a = subvolumes::subvolume_states(book, h, at, out, work);
     let from = start_of(out.len(), a);
-    let b = a + states::snapshot_claims(book, h, at, &mut out[from..], work);
+    let b = a + subvolumes::snapshot_claims(book, h, at, &mut out[from..], work);
     let from = start_of(out.len(), b);
-    b + states::snapshot_states(book, h, at, &mut out[from..], work)
+    b + deletions::snapshot_states(book, h, at, &mut out[from..], work)
 }
 
 // The rules on snapshots, their subvolumes and their trees.

@@ -10,8 +10,8 @@ use borrow.Author.Tests.{eqb-true, ltb-true}
 use Rattle.findings.specs.Findings.{Finding, each}
 use Rattle.pairs.specs.Pairs.{has}
 use Rattle.book.specs.Book.{Book}
-use Rattle.states.specs.Subvolumes.{subvolumeStates, snapshotClaims}
-use Rattle.states.specs.Snapshots.{snapshotStates}
+use Rattle.subvolumes.specs.Subvolumes.{subvolumeStates, snapshotClaims}
+use Rattle.deletions.specs.Snapshots.{snapshotStates}
 use Rattle.snapshots.specs.Flags.{snapshotSubvolFlags}
 use Rattle.snapshots.specs.Children.{subvolumeChildren}
 use Rattle.links.specs.Links.{snapshotLinks}

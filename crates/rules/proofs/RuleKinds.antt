@@ -12,8 +12,8 @@ use Rattle.book.specs.Book.{Bkey, Book}
 use Rattle.fields.specs.Device.{checkKeyDevice}
 use Rattle.fields.specs.Fields.{checkKeyFields, checkAccountingKey, checkInodeV3Word, checkSnapshotPad, checkAllocV4Value, checkPosition}
 use Rattle.states.specs.Words.{checkStateWords, snapshotState, subvolumeState, subvolumeWord}
-use Rattle.states.specs.Subvolumes.{subvolumeStates, subvolumeFindings, snapshotClaims, claimFindings}
-use Rattle.states.specs.Snapshots.{snapshotStates, snapshotStateFindings}
+use Rattle.subvolumes.specs.Subvolumes.{subvolumeStates, subvolumeFindings, snapshotClaims, claimFindings}
+use Rattle.deletions.specs.Snapshots.{snapshotStates, snapshotStateFindings}
 use Rattle.snapshots.specs.Flags.{snapshotSubvolFlags, flagFindings}
 use Rattle.snapshots.specs.Children.{subvolumeChildren, missingEntry, wrongEntry}
 use Rattle.links.specs.Links.{snapshotLinks, treeFindings, masterFindings, linkFindings, rootFindings, backrefFindings, childFindings, skipFindings}

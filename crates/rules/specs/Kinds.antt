@@ -6,8 +6,8 @@ use mathlib.Core.List.{List, [], _∷_, _++_}
 use Rattle.findings.specs.Findings.{Finding, each}
 use Rattle.pairs.specs.Pairs.{has}
 use Rattle.book.specs.Book.{Book}
-use Rattle.states.specs.Subvolumes.{subvolumeStates, snapshotClaims}
-use Rattle.states.specs.Snapshots.{snapshotStates}
+use Rattle.subvolumes.specs.Subvolumes.{subvolumeStates, snapshotClaims}
+use Rattle.deletions.specs.Snapshots.{snapshotStates}
 use Rattle.snapshots.specs.Flags.{snapshotSubvolFlags}
 use Rattle.snapshots.specs.Children.{subvolumeChildren}
 use Rattle.links.specs.Links.{snapshotLinks}

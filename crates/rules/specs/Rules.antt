@@ -6,8 +6,8 @@ use Rattle.book.specs.Book.{Bkey, Book}
 use Rattle.fields.specs.Device.{checkKeyDevice}
 use Rattle.fields.specs.Fields.{checkKeyFields}
 use Rattle.states.specs.Words.{checkStateWords}
-use Rattle.states.specs.Subvolumes.{subvolumeStates, snapshotClaims}
-use Rattle.states.specs.Snapshots.{snapshotStates}
+use Rattle.subvolumes.specs.Subvolumes.{subvolumeStates, snapshotClaims}
+use Rattle.deletions.specs.Snapshots.{snapshotStates}
 use Rattle.snapshots.specs.Flags.{snapshotSubvolFlags}
 use Rattle.snapshots.specs.Children.{subvolumeChildren}
 use Rattle.links.specs.Links.{snapshotLinks}

@@ -1,9 +1,4 @@
 -- For this crate and those that link it: `Bits` ties the machine's count of bits to `distance`.
 pub mod Bits
-mod Claims
-mod Counts
 mod Examples
-mod Groups
-mod Snapshots
-mod States
 mod Words

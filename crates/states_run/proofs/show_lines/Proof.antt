@@ -6,10 +6,10 @@ use Rattle.states_run.proofs.show_lines.Statement.{statement}
 use Rattle.states_run.proofs.show_lines.Tie as tie
 
 abbrev Inv-loop : tie.InvT-loop
-Inv-loop text version₀ i₀ from₀ t7 version i from = i ≤ from
+Inv-loop text version₀ i₀ from₀ version i from = i ≤ from
 
 abbrev μ-loop : tie.MeasureT-loop
-μ-loop text version₀ i₀ from₀ t7 version i from = length text - from
+μ-loop text version₀ i₀ from₀ version i from = length text - from
 
 pub show-lines-spec : {M : Type 1} → statement M
 show-lines-spec =
@@ -25,8 +25,6 @@ show-lines-spec =
     (λ c κs. search needs)
     (λ c. search needs)
     (λ c. search needs)
-    (λ c. search needs)
-    (λ c κs. search needs)
     (λ c. search needs)
     (λ c κs. search needs)
     (λ c. search needs)

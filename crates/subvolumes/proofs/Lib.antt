@@ -1,0 +1,4 @@
+mod Claims
+mod Counts
+mod Groups
+mod States

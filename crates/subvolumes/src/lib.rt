@@ -1,0 +1,351 @@
+// The rules on unavailable subvolumes and on snapshots claimed twice.
+ghost use mathlib.Core.Path.{_≡_};
+ghost use mathlib.Core.List.{[], _∷_, _++_};
+ghost use mathlib.Core.Bool.{_&&_};
+ghost use Prim.Native.Nat.{_+_, _*_, _^_, _<_, _≤_};
+ghost use lib.ListN.{length};
+ghost use lib.Dec.{eqb};
+ghost use Rattle.findings.specs.Findings.{each, Found, Added};
+ghost use Rattle.pairs.specs.Pairs.{pairsOf, Sorted};
+ghost use Rattle.book.specs.Book.{bookOf};
+ghost use Rattle.book.specs.Walk.{Opened};
+ghost use Rattle.walk.specs.Keys.{keyAt, AtKey, gather};
+ghost use Rattle.subvolumes.specs.Subvolumes.{
+  isLiveSnapshot,
+  unavailable,
+  subvolumeStates,
+  isUnavailable,
+  claims,
+  claimFindings,
+  snapshotClaims,
+};
+ghost use Rattle.subvolumes.specs.Steps.{
+  claimPair,
+  firsts,
+  RunEnd,
+  groupPair,
+  statePair,
+  groupFindings,
+  judged,
+};
+use book::Header;
+use book::KeyFront;
+use book::Places;
+use findings::emit_if;
+
+// Where the state words of values stand.
+const SUBVOL_STATE: usize = 40;
+
+const SNAP_STATE: usize = 56;
+
+// States of subvolumes and snapshots.
+const SUBVOL_UNLINKED: u32 = 0x2d35_8e8f;
+
+const SUBVOL_DELETED: u32 = 0x3c6b_2d4c;
+
+const SNAP_LIVE: u32 = 0x757c_47a2;
+
+// Whether the key at byte p is a subvolume that claims a snapshot.
+fn claims_snapshot(book: &[u8], p: usize, f: KeyFront) -> bool
+    requires { ⌜ AtKey (now book) p f ⌝ }
+    ensures { λ r. ⌜ r ≡ claims (keyAt (now (book .entry)) p) ⌝ }
+{
+    if ((f.btree == 8) & (f.key_type == 21)) & (8 <= f.len) {
+        if f.len < 44 {
+            return true;
+        }
+        let word = walk::key_word(book, p, f, SUBVOL_STATE);
+        return !(states::bits_apart(word, SUBVOL_DELETED) <= 2);
+    }
+    false
+}
+
+// Puts the pair that the key at byte p gives behind the first n, and returns their number with it.
+fn put_claim(book: &[u8], p: usize, f: KeyFront, work: &mut [u64], n: usize) -> usize
+    requires { ⌜ AtKey (now book) p f × (2 * n + 2 ≤ length (now work)) ⌝ }
+    ensures put { λ r. ⌜ pairsOf (now (work .exit)) r ≡ pairsOf (now (work .entry)) n ++ claimPair p (keyAt (now (book .entry)) p) ⌝ }
+    ensures few { λ r. ⌜ r ≤ n + 1 ⌝ }
+{
+    if claims_snapshot(book, p, f) {
+        let snapshot = walk::key_word(book, p, f, 4);
+        pairs::put_pair(work, n, snapshot as u64, 0);
+        return n + 1;
+    }
+    n
+}
+
+// Puts a pair for each claimant, in key order, and returns their number.
+fn put_claims(book: &[u8], h: Header, at: Places, work: &mut [u64]) -> usize
+    requires { ⌜ Opened (now book) h at × (2 * h .keys ≤ length (now work)) ⌝ }
+    ensures put { λ r. ⌜ pairsOf (now (work .exit)) r ≡ gather claimPair (now (book .entry)) (h .keys) (at .keys) ⌝ }
+    ensures few { λ r. ⌜ r ≤ h .keys ⌝ }
+{
+    let mut left = h.keys;
+    let mut p = at.keys;
+    let mut n: usize = 0;
+    while 0 < left {
+        let f = book::key_front(book, p);
+        n = put_claim(book, p, f, work, n);
+        p = p + 28 + f.len;
+        left -= 1;
+    }
+    n
+}
+
+// The first place past i, of the first n pairs, whose first word is not that of pair i.
+fn run_end(w: &[u64], n: usize, i: usize) -> usize
+    requires { ⌜ (2 * n ≤ length (now w)) × (i < n) ⌝ }
+    ensures { λ r. ⌜ RunEnd (now (w .entry)) n i r ⌝ }
+{
+    let p = 2 * i;
+    let id = w[p];
+    let mut e = i + 1;
+    while e < n {
+        let q = 2 * e;
+        if w[q] != id {
+            return e;
+        }
+        e += 1;
+    }
+    e
+}
+
+// The findings of the first n pairs, which are sorted: one for each first word that stands more than once.
+fn show_claims(w: &[u64], n: usize, out: &mut [u8]) -> usize
+    requires { ⌜ (2 * n ≤ length (now w)) × (n < 2 ^ 32) × Sorted (pairsOf (now w) n) ⌝ }
+    ensures found { λ r. ⌜ Found (now (out .entry)) (claimFindings (firsts (now (w .entry)) n)) r (now (out .exit)) ⌝ }
+    ensures few { λ r. ⌜ r ≤ n ⌝ }
+{
+    let mut found: usize = 0;
+    let mut i: usize = 0;
+    while i < n {
+        let e = run_end(w, n, i);
+        let p = 2 * i;
+        let id = w[p];
+        let size = e - i;
+        found = emit_if(out, found, 1 < size, 32, id, size as u64);
+        i = e;
+    }
+    found
+}
+
+// The findings of snapshots that more than one subvolume claims.
+pub fn snapshot_claims(
+    book: &[u8],
+    h: Header,
+    at: Places,
+    out: &mut [u8],
+    work: &mut [u64],
+) -> usize
+    requires { ⌜ Opened (now book) h at × (2 * h .keys ≤ length (now work)) ⌝ }
+    ensures found { λ r. ⌜ Found (now (out .entry)) (snapshotClaims (bookOf (now (book .entry)))) r (now (out .exit)) ⌝ }
+    ensures few { λ r. ⌜ r ≤ h .keys ⌝ }
+{
+    let n = put_claims(book, h, at, work);
+    pairs::sort_pairs(work, n);
+    show_claims(work, n, out)
+}
+
+// Whether the key at byte p is an unlinked or deleted subvolume whose offset is an id of 32 bits.
+fn is_gone(book: &[u8], p: usize, f: KeyFront) -> bool
+    requires { ⌜ AtKey (now book) p f ⌝ }
+    ensures { λ r. ⌜ r ≡ unavailable (keyAt (now (book .entry)) p) ⌝ }
+{
+    if ((f.btree == 8) & (f.key_type == 21)) & (44 <= f.len) {
+        let state = walk::key_word(book, p, f, SUBVOL_STATE);
+        let offset = walk::key_offset(book, p, f);
+        return ((state == SUBVOL_UNLINKED) | (state == SUBVOL_DELETED)) & (offset <= 0xffff_ffff);
+    }
+    false
+}
+
+// Whether the key at byte p is such a subvolume, and this its id.
+fn is_gone_id(book: &[u8], p: usize, f: KeyFront, id: u64) -> bool
+    requires { ⌜ AtKey (now book) p f ⌝ }
+    ensures { λ r. ⌜ r ≡ unavailable (keyAt (now (book .entry)) p) && eqb (keyAt (now (book .entry)) p .offset) id ⌝ }
+{
+    if is_gone(book, p, f) {
+        return walk::key_offset(book, p, f) == id;
+    }
+    false
+}
+
+// Whether an id is in the set of unavailable subvolumes, which are unlinked or deleted.
+pub fn is_unavailable(book: &[u8], h: Header, at: Places, id: u32) -> bool
+    requires { ⌜ Opened (now book) h at ⌝ }
+    ensures { λ r. ⌜ r ≡ isUnavailable id (bookOf (now (book .entry)) .keys) ⌝ }
+{
+    let wanted = id as u64;
+    let mut left = h.keys;
+    let mut p = at.keys;
+    while 0 < left {
+        let f = book::key_front(book, p);
+        if is_gone_id(book, p, f, wanted) {
+            return true;
+        }
+        p = p + 28 + f.len;
+        left -= 1;
+    }
+    false
+}
+
+// Whether the key at byte p is a live snapshot.
+pub fn is_live_snapshot(book: &[u8], p: usize, f: KeyFront) -> bool
+    requires { ⌜ AtKey (now book) p f ⌝ }
+    ensures { λ r. ⌜ r ≡ isLiveSnapshot (keyAt (now (book .entry)) p) ⌝ }
+{
+    if ((f.btree == 9) & (f.key_type == 22)) & (60 <= f.len) {
+        return walk::key_word(book, p, f, SNAP_STATE) == SNAP_LIVE;
+    }
+    false
+}
+
+// Puts the pair of the key at byte p in a group behind the first n.
+fn put_in_group(book: &[u8], p: usize, f: KeyFront, group: u64, work: &mut [u64], n: usize)
+    requires { ⌜ AtKey (now book) p f × (2 * n + 2 ≤ length (now work)) ⌝ }
+    ensures { λ _. ⌜ pairsOf (now (work .exit)) (n + 1) ≡ pairsOf (now (work .entry)) n ++ (groupPair group (keyAt (now (book .entry)) p) ∷ []) ⌝ }
+{
+    let offset = walk::key_offset(book, p, f);
+    pairs::put_pair(work, n, group, offset);
+}
+
+// Puts the pair that the key at byte p gives behind the first n, and returns their number with it.
+fn put_state(book: &[u8], p: usize, f: KeyFront, work: &mut [u64], n: usize) -> usize
+    requires { ⌜ AtKey (now book) p f × (2 * n + 2 ≤ length (now work)) ⌝ }
+    ensures put { λ r. ⌜ pairsOf (now (work .exit)) r ≡ pairsOf (now (work .entry)) n ++ statePair p (keyAt (now (book .entry)) p) ⌝ }
+    ensures few { λ r. ⌜ r ≤ n + 1 ⌝ }
+{
+    if is_live_snapshot(book, p, f) {
+        let id = walk::key_word(book, p, f, 16) as u64;
+        put_in_group(book, p, f, 2 * id, work, n);
+        return n + 1;
+    }
+    if ((f.btree == 15) & (f.key_type == 31)) & (8 <= f.len) {
+        let id = walk::key_word(book, p, f, 0) as u64;
+        put_in_group(book, p, f, 2 * id + 1, work, n);
+        return n + 1;
+    }
+    n
+}
+
+// Puts a pair for each live snapshot and each tree record, in key order, and returns their number.
+fn put_states(book: &[u8], h: Header, at: Places, work: &mut [u64]) -> usize
+    requires { ⌜ Opened (now book) h at × (2 * h .keys ≤ length (now work)) ⌝ }
+    ensures put { λ r. ⌜ pairsOf (now (work .exit)) r ≡ gather statePair (now (book .entry)) (h .keys) (at .keys) ⌝ }
+    ensures few { λ r. ⌜ r ≤ h .keys ⌝ }
+{
+    let mut left = h.keys;
+    let mut p = at.keys;
+    let mut n: usize = 0;
+    while 0 < left {
+        let f = book::key_front(book, p);
+        n = put_state(book, p, f, work, n);
+        p = p + 28 + f.len;
+        left -= 1;
+    }
+    n
+}
+
+// The findings of a kind for each key of a group among the first n pairs, with id as object; m were found before.
+fn show_group(
+    work: &[u64],
+    n: usize,
+    group: u64,
+    kind: u8,
+    id: u64,
+    out: &mut [u8],
+    m: usize,
+) -> usize
+    requires { ⌜ (2 * n ≤ length (now work)) × (n < 2 ^ 32) × (m < 2 ^ 61) ⌝ }
+    ensures added { λ r. ⌜ Added (now (out .entry)) m (groupFindings kind group id (pairsOf (now (work .entry)) n)) r (now (out .exit)) ⌝ }
+    ensures few { λ r. ⌜ r ≤ m + n ⌝ }
+{
+    let mut found = m;
+    let mut i: usize = 0;
+    while i < n {
+        let q = 2 * i;
+        let first = work[q];
+        let second = work[q + 1];
+        found = emit_if(out, found, first == group, kind, second, id);
+        i += 1;
+    }
+    found
+}
+
+// The findings of a deleted subvolume's snapshots and tree records among the first n pairs.
+fn show_deleted(work: &[u64], n: usize, id: u64, out: &mut [u8], m: usize) -> usize
+    requires { ⌜ (2 * n ≤ length (now work)) × (n < 2 ^ 32) × (id < 2 ^ 32) × (m < 2 ^ 60) ⌝ }
+    ensures added { λ r. ⌜ Added (now (out .entry)) m (groupFindings 30 (2 * id) id (pairsOf (now (work .entry)) n) ++ groupFindings 31 (2 * id + 1) id (pairsOf (now (work .entry)) n)) r (now (out .exit)) ⌝ }
+    ensures few { λ r. ⌜ r ≤ m + n + n ⌝ }
+{
+    let group = 2 * id;
+    let found = show_group(work, n, group, 30, id, out, m);
+    show_group(work, n, group + 1, 31, id, out, found)
+}
+
+// The findings of the key at byte p, if it is an unavailable subvolume, by the first n pairs of states.
+fn show_subvolume(
+    book: &[u8],
+    p: usize,
+    f: KeyFront,
+    work: &[u64],
+    n: usize,
+    out: &mut [u8],
+    m: usize,
+) -> usize
+    requires { ⌜ AtKey (now book) p f × (2 * n ≤ length (now work)) × (n < 2 ^ 32) × (m < 2 ^ 59) ⌝ }
+    ensures added { λ r. ⌜ Added (now (out .entry)) m (judged (pairsOf (now (work .entry)) n) (keyAt (now (book .entry)) p)) r (now (out .exit)) ⌝ }
+    ensures few { λ r. ⌜ r ≤ m + 1 + n + n ⌝ }
+{
+    if is_gone(book, p, f) {
+        let id = walk::key_offset(book, p, f);
+        let state = walk::key_word(book, p, f, SUBVOL_STATE);
+        let found = emit_if(out, m, id == 1, 29, 1, 0);
+        if state == SUBVOL_DELETED {
+            return show_deleted(work, n, id, out, found);
+        }
+        return found;
+    }
+    m
+}
+
+// The findings of the unavailable subvolumes, by the first n pairs of states.
+fn show_subvolumes(
+    book: &[u8],
+    h: Header,
+    at: Places,
+    work: &[u64],
+    n: usize,
+    out: &mut [u8],
+) -> usize
+    requires { ⌜ Opened (now book) h at × (2 * n ≤ length (now work)) × (n ≤ h .keys) ⌝ }
+    ensures found { λ r. ⌜ Found (now (out .entry)) (each (λ _ k. judged (pairsOf (now (work .entry)) n) k) 0 (bookOf (now (book .entry)) .keys)) r (now (out .exit)) ⌝ }
+    ensures few { λ r. ⌜ r ≤ h .keys * 74899 ⌝ }
+{
+    let mut found: usize = 0;
+    let mut left = h.keys;
+    let mut p = at.keys;
+    while 0 < left {
+        let f = book::key_front(book, p);
+        found = show_subvolume(book, p, f, work, n, out, found);
+        p = p + 28 + f.len;
+        left -= 1;
+    }
+    found
+}
+
+// The findings of unlinked and deleted subvolumes, and of live snapshots and tree records of deleted ones.
+pub fn subvolume_states(
+    book: &[u8],
+    h: Header,
+    at: Places,
+    out: &mut [u8],
+    work: &mut [u64],
+) -> usize
+    requires { ⌜ Opened (now book) h at × (2 * h .keys ≤ length (now work)) ⌝ }
+    ensures found { λ r. ⌜ Found (now (out .entry)) (subvolumeStates (bookOf (now (book .entry)))) r (now (out .exit)) ⌝ }
+    ensures few { λ r. ⌜ r ≤ h .keys * 74899 ⌝ }
+{
+    let n = put_states(book, h, at, work);
+    show_subvolumes(book, h, at, work, n, out)
+}
