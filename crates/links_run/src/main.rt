@@ -2,7 +2,6 @@
 // subject and object of each. A line that starts with `#` is a heading, and is written as it stands.
 ghost use Prim.Native.Nat.{_+_, _^_, _≤_, _<_};
 ghost use lib.ListN.{length};
-ghost use Rattle.io.specs.Counts.{Counts};
 ghost use Rattle.book.specs.Walk.{Opened};
 use book::Header;
 use book::Places;
@@ -68,71 +67,23 @@ fn tell(bytes: &[u8]) {
     }
 }
 
-// The value of a hexadecimal digit, and 0 for any other byte.
-fn digit(b: u8) -> u8
-    ensures { λ r. ⌜ r < 16 ⌝ }
-{
-    match b {
-        b'0'..=b'9' => b - b'0',
-        b'a'..=b'f' => b - b'a' + 10,
-        _ => 0,
+// A heading, or a book in hexadecimal.
+fn show(text: &[u8]) {
+    if lines::is_heading(text) {
+        report::write_line(text);
+        return;
     }
-}
-
-// Puts the bytes that the digits of a line stand for into the buffer, and returns how many there are: a digit more is left out.
-fn decode(digits: &[u8], bytes: &mut [u8]) -> usize
-    ensures { λ r. ⌜ Counts r (now (bytes .exit)) ⌝ }
-{
-    let mut n: usize = 0;
-    while n < digits.len() / 2 {
-        if n == bytes.len() {
-            return n;
-        }
-        let p = 2 * n;
-        bytes[n] = digit(digits[p]) * 16 + digit(digits[p + 1]);
-        n += 1;
-    }
-    n
-}
-
-// A book in hexadecimal.
-fn tell_line(text: &[u8]) {
     let mut space = io::large_buffer();
-    let n = decode(text, &mut space);
+    let n = lines::decode(text, &mut space);
     tell(&space[..n]);
-}
-
-// Where the line that starts at byte `from` ends.
-fn line_end(text: &[u8], from: usize) -> usize
-    requires { ⌜ from ≤ length (now text) ⌝ }
-    ensures { λ r. ⌜ (from ≤ r) × (r ≤ length (now (text .entry))) ⌝ }
-{
-    let mut end = from;
-    while end < text.len() {
-        if text[end] == b'\n' {
-            return end;
-        }
-        end += 1;
-    }
-    end
-}
-
-// The first byte of a line, and 0 for an empty one.
-fn mark(text: &[u8]) -> u8 {
-    if 0 < text.len() { text[0] } else { 0 }
 }
 
 // Each line of a text.
 fn show_lines(text: &[u8]) {
-    let mut from: usize = 0;
+    let mut from = 0;
     while from < text.len() {
-        let end = line_end(text, from);
-        if mark(&text[from..end]) == b'#' {
-            io::write_all(STDOUT_FILENO, &text[from..end]);
-            io::write_all(STDOUT_FILENO, b"\n");
-        } else {
-            tell_line(&text[from..end]);
-        }
+        let end = lines::line_end(text, from);
+        show(&text[from..end]);
         from = end + 1;
     }
 }
