@@ -1,16 +1,14 @@
 -- The two maps that the pairs of the keys stand for.
 use Prim.Native.Nat.{ℕ, _+_, _*_, _%_, _^_, _≤_, _<_}
-use mathlib.Core.Path.{_≡_, refl, sym, ap, _∙_}
+use mathlib.Core.Path.{_≡_, refl}
 use mathlib.Core.Bool.{Bool, true, false, true≢false, cond, _&&_}
-use mathlib.Core.List.{List, [], _∷_, _++_}
-use mathlib.Core.Option.{Option, none, some}
+use mathlib.Core.List.{List, [], _∷_}
 use native.Mathlib.Omega.{arith}
 use lib.ListN.{length, getD, drop}
 use lib.Dec.{eqb, leb, lit<}
 use borrow.Author.Tests.{eq-eqb, ne-eqb}
 use Rattle.bits.specs.Bits.{leAt}
 use Rattle.findings.specs.Findings.{each, keep}
-use Rattle.pairs.specs.declared.MaybeU64.{MaybeU64}
 use Rattle.pairs.specs.declared.MaybeU64.the-variants as u64
 use Rattle.pairs.specs.Pairs.{pairsOf}
 use Rattle.book.specs.declared.Header.{Header}
@@ -103,12 +101,13 @@ module _ (b t m : ℕ) {s : List ℕ} {x q : ℕ} (small : length s ≤ 1048576)
   pub held-key : {f : KeyFront} → f ≡ frontOf (keyHead s q) → AtKey s q f × (m ≤ f .len)
   held-key e = let k = held-at small held e in (k, holds-long k b t m (held .passes))
 
+-- the words of a tree record
+abbrev treeWords : Bkey → ℕ × ℕ
+treeWords k = (masterWord k, rootWord k)
+
 module _ {s : List ℕ} {h : Header} {at : Places} {w : List ℕ} {n : ℕ} (r : Ready s h at w n) where
   pub ready-small : length s ≤ 1048576
   ready-small = r .pairs .small
-
-  abbrev treeWords : Bkey → ℕ × ℕ
-  treeWords k = (masterWord k, rootWord k)
 
   trees-keys : treeMap (bookOf s) ≡ mapOf (holds 15 31 8) idOf treeWords (keysFrom s (h .keys) (at .keys))
   unfolding treeMap

@@ -49,16 +49,16 @@ pub skip-test : (id skip : ℕ) (ids : List ℕ) {above b : Bool} → above ≡ 
 unfolding badSkip has
 skip-test id skip ids h e = rw (← h) e
 
-one-kept : (t : Bool) (x : ℕ) (xs : List ℕ) → length (cond t (x ∷ xs) xs) ≡ cond t 1 0 + length xs
-one-kept true x xs = omega arith
-one-kept false x xs = omega arith
+kept-length : (t : Bool) (x : ℕ) (xs : List ℕ) → length (cond t (x ∷ xs) xs) ≡ cond t 1 0 + length xs
+kept-length true x xs = omega arith
+kept-length false x xs = omega arith
 
 -- the three of them
 pub skip-count : (test : ℕ → Bool) (k : Bkey) {a b c x y z : ℕ} → a ≡ leAt (k .value) 28 4 → b ≡ leAt (k .value) 32 4 → c ≡ leAt (k .value) 36 4
     → x ≡ cond (test a) 1 0 → y ≡ cond (test b) 1 0 → z ≡ cond (test c) 1 0 → x + y + z ≡ length (keep test (skipWords k))
 unfolding keep
 skip-count test k {a} {b} {c} ea eb ec x y z =
-    rw (← ea, ← eb, ← ec, one-kept (test a) a (keep test (b ∷ c ∷ [])), one-kept (test b) b (keep test (c ∷ [])), one-kept (test c) c []) (omega (arith, x, y, z))
+    rw (← ea, ← eb, ← ec, kept-length (test a) a (keep test (b ∷ c ∷ [])), kept-length (test b) b (keep test (c ∷ [])), kept-length (test c) c []) (omega (arith, x, y, z))
 
 -- ---- the findings
 
@@ -125,6 +125,15 @@ pub tree-shown : (b : Book) (e : ℕ × (ℕ × ℕ)) {id subvolume root : ℕ} 
 unfolding treeFindings
 tree-shown b e {root = root} i v t m back = rw (back, m, word-back (lookup root (treeOfMap b)), i, v, t)
 
+-- findings under a test
+only-false : (fs : List Finding) {m : Bool} → m ≡ false → only m fs ≡ []
+unfolding only
+only-false fs e = rw e
+
+only-true : (fs : List Finding) {m : Bool} → m ≡ true → fs ≡ only m fs
+unfolding only
+only-true fs e = rw e
+
 -- the same findings, said otherwise
 pub found-as : {o o′ : List ℕ} {r : ℕ} {fs gs : List Finding} → fs ≡ gs → Found o fs r o′ → Found o gs r o′
 found-as e h = rw e at h
@@ -132,11 +141,14 @@ found-as e h = rw e at h
 -- ---- the mark
 
 module _ (b : Book) {h : Header} (e : b .header ≡ h) where
-  pub links-marked : h .trees ≡ true
-      → each (λ _ e. treeFindings b e) 0 (treeMap b) ++ each (λ _ k. only (holds 9 22 40 k) (linkFindings b k)) 0 (b .keys) ≡ snapshotLinks b
-  unfolding snapshotLinks only
-  links-marked t = rw (e, t)
+  mark-is : {m : Bool} → h .trees ≡ m → b .header .trees ≡ m
+  mark-is t = rw e t
 
   pub links-unmarked : h .trees ≡ false → snapshotLinks b ≡ []
-  unfolding snapshotLinks only
-  links-unmarked t = rw (e, t)
+  unfolding snapshotLinks
+  links-unmarked t = only-false _ (mark-is t)
+
+  pub links-marked : h .trees ≡ true
+      → each (λ _ e. treeFindings b e) 0 (treeMap b) ++ each (λ _ k. only (holds 9 22 40 k) (linkFindings b k)) 0 (b .keys) ≡ snapshotLinks b
+  unfolding snapshotLinks
+  links-marked t = only-true _ (mark-is t)

@@ -10,5 +10,5 @@ count-skip-spec =
     tie.close
     (tie.spec
     (λ c κs. search needs)
-    (λ c. (rw (skip-test _ _ _ (c .before .contains .ensures) (c .if1 .taken)), omega arith))
-    (λ c. (rw (skip-test _ _ _ (c .before .contains .ensures) (c .if1 .left)), omega arith)))
+    (λ c. let a = c .before .before .args in (rw (skip-test (a .id) (a .skip) _ (c .before .contains .ensures) (c .if1 .taken)), omega arith))
+    (λ c. let a = c .before .before .args in (rw (skip-test (a .id) (a .skip) _ (c .before .contains .ensures) (c .if1 .left)), omega arith)))

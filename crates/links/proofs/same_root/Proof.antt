@@ -1,5 +1,4 @@
 -- By what the enum is.
-use mathlib.Core.Path.{_∙_}
 use Rattle.links.specs.Steps.{rootIn, sameRoot}
 use borrow.Author.Needs.{needs}
 use Rattle.links.proofs.same_root.Statement.{statement}

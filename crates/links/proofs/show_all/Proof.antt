@@ -1,7 +1,6 @@
 -- The snapshots' findings after those of the trees.
 use native.Mathlib.Omega.{arith}
 use Rattle.findings.proofs.Laws.{more-lent}
-use Rattle.findings.proofs.Walk.{rule}
 use Rattle.book.proofs.Walk.{few-keys}
 use borrow.Author.Needs.{needs}
 use Rattle.links.proofs.show_all.Statement.{statement}

@@ -3,7 +3,6 @@ use mathlib.Core.Path.{sym, ap, _∙_}
 use Prim.Native.Nat.{ℕ, _+_, _*_, _%_, _^_}
 use native.Mathlib.Omega.{arith}
 use lib.ListN.{getD}
-use Rattle.findings.specs.Findings.{Finding}
 use Rattle.findings.proofs.Laws.{added-as, added-only, added-not}
 use Rattle.book.specs.Book.{bookOf}
 use Rattle.maps.proofs.Places.{Held}

@@ -18,9 +18,9 @@ use Rattle.links.proofs.show_trees.Tie as tie
 
 abbrev Inv-loop : tie.InvT-loop
 Inv-loop book h at work n out₀ found₀ i₀ out found i =
-    (i ≤ n) × (found ≤ i * 2)
-    × Begun (each (λ _ e. treeFindings (bookOf book) (treeAt book e)) 0 (lastPlaces 0 (pairsOf work n))) out₀
+    Begun (each (λ _ e. treeFindings (bookOf book) (treeAt book e)) 0 (lastPlaces 0 (pairsOf work n))) out₀
     (each (λ _ e. treeFindings (bookOf book) (treeAt book e)) 0 (lastPlaces 0 (drop i (pairsOf work n)))) found out
+    × (i ≤ n) × (found ≤ i * 2)
 
 abbrev μ-loop : tie.MeasureT-loop
 μ-loop book h at work n out₀ found₀ i₀ out found i = n - i
@@ -30,17 +30,17 @@ loop-again c =
     let t = c .before .before .before .before .before .before .before .before .before in
     let s = t .args .book .now in
     let l = c .before .before .before .before .before .loop in (
-      omega arith,
-      omega (arith, l .inv .1, c .before .before .show-pair .ensures .1),
-      turn (l .inv .2) (c .before .before .show-pair .ensures .0)
+      turn (l .inv .0) (c .before .before .show-pair .ensures .0)
           (each-last (t .args .work .now) (t .args .n) (l .i) (c .before .before .before .before .loop-test .taken) (λ k. c .before .before .before .before .before .before .before .shared-slice-known2 .given k .fits) 0 (λ e. treeFindings (bookOf s) (treeAt s e))),
+      omega arith,
+      omega (arith, l .inv .2, c .before .before .show-pair .ensures .1),
     )
 
 returns : tie.Need-returns Inv-loop μ-loop
 returns c =
     let t = c .before .before .before .before .before in
     let s = t .args .book .now in
-    (rw (trees-each (t .pre)) (last (c .before .loop .inv .2) (each-ended (λ e. treeFindings (bookOf s) (treeAt s e)) (t .args .work .now) (t .args .n) 0 (c .before .loop .i) (c .loop-test .left))), omega arith)
+    (rw (trees-each (t .pre)) (last (c .before .loop .inv .0) (each-ended (λ e. treeFindings (bookOf s) (treeAt s e)) (t .args .work .now) (t .args .n) 0 (c .before .loop .i) (c .loop-test .left))), omega arith)
 
 pub show-trees-spec : {M : Type 1} → statement M
 show-trees-spec =
@@ -48,10 +48,10 @@ show-trees-spec =
     (tie.spec
     Inv-loop
     μ-loop
-    (λ c. (omega arith, omega arith, first))
-    (λ c κs. (c .before .before .before .before .before .before .pre, c .before .loop-test .taken, omega (arith, few-keys (c .before .before .before .before .before .before .pre .opened), c .before .before .before .before .before .before .pre .few, c .before .before .loop .inv .1, c .before .before .loop .inv .0)))
+    (λ c. (first, omega arith, omega arith))
+    (λ c κs. (c .before .before .before .before .before .before .pre, c .before .loop-test .taken, omega (arith, few-keys (c .before .before .before .before .before .before .pre .opened), c .before .before .before .before .before .before .pre .few, c .before .before .loop .inv .2, c .before .before .loop .inv .1)))
     (λ c. omega (arith, few-keys (c .before .before .before .before .before .before .before .before .before .pre .opened), c .before .before .before .before .before .before .before .before .before .pre .few, c .before .before .before .before .loop-test .taken))
     (λ c. search needs)
     loop-again
-    (λ c. begun-length (c .before .loop .inv .2))
+    (λ c. begun-length (c .before .loop .inv .0))
     returns)

@@ -1,0 +1,29 @@
+-- At most so many findings are shown.
+use Prim.Native.Nat.{_-_, _≤_}
+use borrow.Author.Needs.{needs}
+use Rattle.links_run.proofs.show_findings.Statement.{statement}
+use Rattle.links_run.proofs.show_findings.Tie as tie
+
+abbrev Inv-loop : tie.InvT-loop
+Inv-loop out count k₀ t5 k = k ≤ count
+
+abbrev μ-loop : tie.MeasureT-loop
+μ-loop out count k₀ t5 k = count - k
+
+pub show-findings-spec : {M : Type 1} → statement M
+show-findings-spec =
+    tie.close
+    (tie.spec
+    Inv-loop
+    μ-loop
+    (λ c. search needs)
+    (λ c. search needs)
+    (λ c. search needs)
+    (λ c. search needs)
+    (λ c κs. search needs)
+    (λ c. search needs)
+    (λ c. search needs)
+    (λ c. search needs)
+    (λ c. search needs)
+    (λ c κs. search needs)
+    (λ c. search needs))
