@@ -15,7 +15,8 @@ returns c =
 
 returns-2 : tie.Need-returns-2
 unfolding accepts
-returns-2 c = rw (parse-refused (now (c .before .before .before .before .before .before .before .before .before .before .before .before .before .args .bytes)) (sym (c .before .before .before .before .before .before .before .before .before .before .before .scan .ensures) ∙ c .before .before .before .before .before .before .before .before .before .s .given .1))
+returns-2 c =
+    rw (parse-refused (now (c .before .before .before .before .before .before .args .bytes)) (sym (c .before .before .before .before .scan .ensures) ∙ c .before .before .s .given .1))
 
 pub tell-spec : {M : Type 1} → statement M
 tell-spec =
@@ -24,13 +25,6 @@ tell-spec =
     (λ c κs. search needs)
     (λ c. search needs)
     (λ c. search needs)
-    (λ c κs. search needs)
-    (λ c. search needs)
-    (λ c. search needs)
-    (λ c κs. search needs)
-    (λ c κs. search needs)
-    (λ c. search needs)
-    (λ c κs. search needs)
     (λ c κs. search needs)
     (λ c. search needs)
     (λ c κs. search needs)
