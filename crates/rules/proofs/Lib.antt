@@ -1,2 +1,3 @@
 pub mod RuleKinds
 pub mod Demand3
+mod Examples
