@@ -1,5 +1,4 @@
--- Examples of free space and generations, by computing: document 01's listing, a run of size 0 over a hole, a run that starts one below the
--- first bucket, and the ends of bucket numbers.
+-- Examples of free space and generations, by computing: a run that starts one below the first bucket, and the ends of bucket numbers.
 use Prim.Native.Nat.{ℕ, _-_, _^_}
 use mathlib.Core.Path.{_≡_, refl}
 use mathlib.Core.Bool.{true}
@@ -46,8 +45,7 @@ book gens alloc keys = record {
 }
 
 free : map freeSpace
-    (book [] [] (run 2 0 ∷ []) ∷
-    book [] [] [] ∷
+    (book [] [] [] ∷
     book [] [] (run 4 3 ∷ []) ∷
     book [] [] (run 4 4 ∷ []) ∷
     book [] ((2, some 3) ∷ []) (run 4 4 ∷ []) ∷
@@ -55,8 +53,7 @@ free : map freeSpace
     book [] ((2, some 0) ∷ (3, none) ∷ []) [] ∷
     book [] [] (run 5 1 ∷ run 2 3 ∷ run 4 3 ∷ []) ∷
     book [] [] (run 4 1 ∷ run 2 1 ∷ []) ∷ [])
-    ≡ (finding 50 1 2 ∷ finding 50 2 4 ∷ []) ∷
-    (finding 50 1 4 ∷ []) ∷
+    ≡ (finding 50 1 4 ∷ []) ∷
     [] ∷
     (finding 48 0 1 ∷ []) ∷
     (finding 48 0 2 ∷ []) ∷

@@ -1,4 +1,4 @@
--- Document 01's examples of alloc_v4 values and of replicas, by computing.
+-- Examples of alloc_v4 values and of replicas, by computing.
 use mathlib.Core.Path.{_≡_, refl}
 use mathlib.Core.List.{List, [], _∷_, _++_, map}
 use Prim.Native.Nat.{ℕ}
@@ -22,16 +22,12 @@ alloc value = record { btree = 4; keyType = 27; size = 0; inode = 0; offset = 1;
 accounting : ℕ → Bkey
 accounting inode = record { btree = 20; keyType = 34; size = 0; inode = inode; offset = 0; snapshot = 0; value = zeros 8 }
 
--- replicas on devices 3, 3 and on 3, 4 are the last two
+-- replicas on devices 3, 4 are the last
 keys : List Bkey
 keys =
-    alloc (zeros 47) ∷ alloc (zeros 48) ∷ alloc pointer ∷ alloc (pointer ++ zeros 31) ∷ alloc (pointer ++ zeros 32) ∷ accounting 0x0201020103030000 ∷ accounting 0x0201020103040000 ∷ []
-
-needed : map allocV4Bytes (zeros 47 ∷ pointer ∷ []) ≡ 48 ∷ 80 ∷ []
-unfolding zeros pointer leAt backpointersStart allocV4Bytes
-needed = refl
+    alloc (zeros 47) ∷ alloc (zeros 48) ∷ alloc pointer ∷ alloc (pointer ++ zeros 31) ∷ alloc (pointer ++ zeros 32) ∷ accounting 0x0201020103040000 ∷ []
 
 examples : map (checkKeyFields 7) keys ≡
-    (finding 12 7 0 ∷ []) ∷ [] ∷ (finding 12 7 0 ∷ []) ∷ (finding 12 7 0 ∷ []) ∷ [] ∷ (finding 7 7 0 ∷ []) ∷ [] ∷ []
+    (finding 12 7 0 ∷ []) ∷ [] ∷ (finding 12 7 0 ∷ []) ∷ (finding 12 7 0 ∷ []) ∷ [] ∷ [] ∷ []
 unfolding zeros pointer alloc accounting keys leAt bytesOf when only is hasRow sizeZero snapshotZero minimumValue accountingPositionBytes accountingKind replicasEnd accountingFields someNonzero someNotRising replicasEntryRefused countersBad checkAccountingKey backpointersStart allocV4Bytes checkAllocV4Value accountingJunk foreignType checkPosition checkKeyFields
 examples = refl

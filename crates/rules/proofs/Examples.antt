@@ -1,0 +1,149 @@
+-- Forest books of two snapshots and a tree record: one that is sound, and books that differ from it in one word.
+use Prim.Native.Nat.{ℕ}
+use mathlib.Core.Bool.{true}
+use mathlib.Core.Path.{_≡_, refl, ap, sym, subst}
+use mathlib.Core.List.{List, [], _∷_, map, List·Memᴰ·head, List·Memᴰ·tail, List·Memᴰ·not-nil, List·Memᴰ·eq-of-singleton}
+use lib.ListN.{getD}
+use native.Mathlib.Omega.{arith}
+use Rattle.bits.specs.Bits.{leAt}
+use Rattle.findings.specs.Findings.{Finding, finding, when, only, each, keep}
+use Rattle.pairs.specs.Pairs.{has, sort}
+use Rattle.book.specs.Maps.{lookup, insert, insertAll, collect}
+use Rattle.book.specs.Book.{Bkey, Book, is, parentsOf}
+use Rattle.fields.specs.Device.{elsewhere, checkKeyDevice}
+use Rattle.fields.specs.Fields.{hasRow, sizeZero, snapshotZero, minimumValue, checkSnapshotPad, badId, foreignType, checkPosition, checkKeyFields}
+use Rattle.states.specs.Distance.{bitsApart, stateDistance, snapStates}
+use Rattle.states.specs.Words.{stateRequired, snapStateWord, snapshotState, checkStateWords}
+use Rattle.subvolumes.specs.Subvolumes.{hasSubvolState, unavailable, subvolumeStates, claims, claimed, counts, claimFindings, snapshotClaims}
+use Rattle.deletions.specs.Snapshots.{hasSnapState, snapshotStates}
+use Rattle.maps.specs.Maps.{mapOf}
+use Rattle.parents.specs.Roots.{oneMore, rootVia, rootWithin, rootOf, followedVia, followed, above}
+use Rattle.snapshots.specs.Words.{holds, parentWord, idOf}
+use Rattle.snapshots.specs.Flags.{flagged, flagIsWrong, flagFindings, snapshotSubvolFlags}
+use Rattle.snapshots.specs.Children.{hasFsParent, fsParents, subvolumeChildren}
+use Rattle.links.specs.Links.{treeMap, treeOfMap, isThe, isOther, masterFindings, treeFindings, namesRoot, wrongDepth, badChild, badSkip, rootFindings, backrefFindings, childFindings, skipFindings, linkFindings, snapshotLinks}
+use Rattle.buckets.specs.Gens.{isGens, bucketGensAgainstAlloc}
+use Rattle.buckets.specs.FreeSpace.{heldRuns, gaps, freeSpace}
+use Rattle.forest.specs.Lists.{_∈_}
+use Rattle.forest.specs.Forest.{keysOf, snapshots, WellFormed, ForestBook, Sound, Absent}
+use Rattle.rules.specs.Rules.{keyFindings, findingsOf}
+use Rattle.rules.proofs.Demand3.{demand-3}
+
+-- a 32-bit word below 256, in bytes, before the rest
+abbrev word : ℕ → List ℕ → List ℕ
+word n rest = n ∷ 0 ∷ 0 ∷ 0 ∷ rest
+
+abbrev key : ℕ → ℕ → ℕ → List ℕ → Bkey
+key btree keyType offset value = record { btree = btree; keyType = keyType; size = 0; inode = 0; offset = offset; snapshot = 0; value = value }
+
+-- a snapshot by its id, parent, first child, tree, depth and first skip word
+abbrev snapshot : ℕ → ℕ → ℕ → ℕ → ℕ → ℕ → Bkey
+snapshot id parent child tree depth skip =
+    key 9 22 id (word 0 (word parent (word child (word 0 (word 0 (word tree (word depth (word skip (word 0 (word 0 []))))))))))
+
+-- snapshot 1 with a parent and a child; snapshot 2, of parent 1, with a tree, a depth and a skip word
+abbrev upper : ℕ → ℕ → Bkey
+upper parent child = snapshot 1 parent child 1 0 1
+
+abbrev lower : ℕ → ℕ → ℕ → Bkey
+lower tree depth skip = snapshot 2 1 0 tree depth skip
+
+-- a book of these, with tree record 1 of this root, and the parents as the snapshots have them
+book : ℕ → ℕ → ℕ → ℕ → ℕ → ℕ → Book
+book parent child tree depth skip root = record {
+  header = record {
+    layout = 1;
+    trees = true;
+    spare = 0;
+    version = 1062;
+    «first_bucket» = 0;
+    keys = 3;
+    device = 0;
+    buckets = 0;
+    parents = 2;
+    subvolumes = 1;
+    gens = 0;
+    alloc = 0;
+  };
+  parents = (1, parentWord (upper parent child)) ∷ (2, 1) ∷ [];
+  subvolumes = (5, 1) ∷ [];
+  gens = [];
+  alloc = [];
+  keys = upper parent child ∷ key 15 31 1 (word 5 (word root [])) ∷ lower tree depth skip ∷ [];
+}
+
+-- THE PREMISES
+
+-- what holds of both elements of a list
+both : {A : Type 0} (P : A → Type 0) {x y : A} → P x → P y → (z : A) → z ∈ (x ∷ y ∷ []) → P z
+both P p q z (List·Memᴰ·head e) = subst P (sym e) p
+both P p q z (List·Memᴰ·tail m) = subst P (sym (List·Memᴰ·eq-of-singleton m)) q
+
+-- a snapshot of the book has this id and this parent
+Named : Book → ℕ × ℕ → Type 0
+Named b e = (s : Bkey) × (s ∈ snapshots b) × (s .offset ≡ e .0) × (parentWord s ≡ e .1)
+
+-- the parents table has a snapshot's id and parent
+Listed : Book → Bkey → Type 0
+Listed b s = (s .offset, parentWord s) ∈ parentsOf b
+
+-- each is a forest book, whatever the words
+forest-book : (parent child tree depth skip root : ℕ) → ForestBook (book parent child tree depth skip root)
+unfolding book keysOf keep parentsOf leAt Named Listed
+forest-book parent child tree depth skip root =
+    let b = book parent child tree depth skip root in
+    record {
+      mark = refl;
+      snapshots-formed = both (WellFormed 22 40)
+          (record { typed = refl; long = omega arith; above-zero = omega arith; fits = omega arith })
+          (record { typed = refl; long = omega arith; above-zero = omega arith; fits = omega arith });
+      records-formed = λ t m.
+          subst (WellFormed 31 8) (sym (List·Memᴰ·eq-of-singleton m))
+          (record { typed = refl; long = omega arith; above-zero = omega arith; fits = omega arith });
+      snapshots-distinct = ((λ m. absurd (omega (arith, List·Memᴰ·eq-of-singleton m))), ((λ m. List·Memᴰ·not-nil m), tt));
+      records-distinct = ((λ m. List·Memᴰ·not-nil m), tt);
+      table-true = λ id p. (
+        both (Named b)
+            (upper parent child, List·Memᴰ·head refl, refl, refl)
+            (lower tree depth skip, List·Memᴰ·tail (List·Memᴰ·head refl), refl, refl)
+            (id, p),
+        (λ r.
+            subst (λ (e : ℕ × ℕ). e ∈ parentsOf b) (λ j. (r .2 j, r .3 j))
+            (both (Listed b) (List·Memᴰ·head refl) (List·Memᴰ·tail (List·Memᴰ·head refl)) (r .0) (r .1))),
+      );
+    }
+
+-- THE FINDINGS
+
+-- a book and its findings
+abbrev Row : Type 0
+Row = Book × List Finding
+
+-- the sound book; then another root, tree, depth, child and skip word; then snapshot 1 with itself, with 2 and with none as its parent
+rows : List Row
+rows =
+    (book 0 2 1 1 1 1, []) ∷
+    (book 0 2 1 1 1 3, finding 39 1 3 ∷ finding 41 1 1 ∷ finding 41 2 1 ∷ []) ∷
+    (book 0 2 2 1 1 1, finding 41 2 2 ∷ []) ∷
+    (book 0 2 1 0 1 1, finding 42 2 0 ∷ []) ∷
+    (book 0 3 1 1 1 1, finding 44 1 3 ∷ []) ∷
+    (book 0 2 1 1 3 1, finding 45 2 1 ∷ []) ∷
+    (book 1 2 1 1 1 1, finding 41 1 1 ∷ finding 41 2 1 ∷ []) ∷
+    (book 2 2 1 1 1 1, finding 41 1 1 ∷ finding 41 2 1 ∷ []) ∷
+    (book 3 2 1 1 1 1, finding 41 1 1 ∷ finding 41 2 1 ∷ []) ∷
+    []
+
+examples : map (λ (r : Row). findingsOf (r .0)) rows ≡ map (λ (r : Row). r .1) rows
+unfolding rows book leAt when only each keep has sort lookup insert insertAll collect is parentsOf elsewhere checkKeyDevice hasRow sizeZero snapshotZero minimumValue checkSnapshotPad badId foreignType checkPosition checkKeyFields bitsApart stateDistance snapStates stateRequired snapStateWord snapshotState checkStateWords hasSubvolState unavailable subvolumeStates claims claimed counts claimFindings snapshotClaims hasSnapState snapshotStates mapOf oneMore rootVia rootWithin rootOf followedVia followed above holds idOf flagged flagIsWrong flagFindings snapshotSubvolFlags hasFsParent fsParents subvolumeChildren treeMap treeOfMap isThe isOther masterFindings treeFindings namesRoot wrongDepth badChild badSkip rootFindings backrefFindings childFindings skipFindings linkFindings snapshotLinks isGens bucketGensAgainstAlloc heldRuns gaps freeSpace keyFindings findingsOf
+examples = refl
+
+-- the first has no findings, and so it is sound
+no-findings : findingsOf (book 0 2 1 1 1 1) ≡ []
+unfolding rows
+no-findings = ap (λ (xs : List (List Finding)). getD xs 0 []) examples
+
+absent : Absent (findingsOf (book 0 2 1 1 1 1))
+absent f m k = List·Memᴰ·not-nil (subst (λ (xs : List Finding). f ∈ xs) no-findings m)
+
+sound : Sound (book 0 2 1 1 1 1)
+sound = demand-3 (book 0 2 1 1 1 1) (forest-book 0 2 1 1 1 1) .exact .0 absent
