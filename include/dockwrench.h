@@ -26,7 +26,8 @@ extern "C" {
  *   10   the buffer is too short for all of them; count() is how many there are in full
  *
  * and both times the buffer holds the whole findings that fit, from the first, its other bytes are as they were, and every word of the
- * work area is zero, however many were lent. An answer 0 with count 0 says that nothing is wrong. Otherwise it is a refusal
+ * work area is zero, however many were lent. An answer 0 with count 0 says that no rule found anything; the links between snapshots are judged
+ * only where the book's trees mark is set. Otherwise it is a refusal
  *
  *    1   over 1,048,576 bytes                              place 0
  *    2   under 32 bytes                                    place 0
