@@ -1,0 +1,106 @@
+//! Test books for differential runs. A book follows from its mode, a seed and an index alone, so that runs can be split and repeated.
+
+mod chains;
+mod damaged;
+mod fields;
+mod forest;
+mod mixed;
+mod random;
+mod runs;
+mod short;
+mod values;
+mod world;
+
+use crate::layout::{Book, Key};
+use random::Random;
+
+#[derive(Clone, Copy, PartialEq, Eq, Debug)]
+pub enum Mode {
+    Mixed,
+    Forest,
+    Chains,
+    Runs,
+    Damaged,
+    Short,
+}
+
+impl Mode {
+    pub const ALL: [Mode; 6] = [Mode::Mixed, Mode::Forest, Mode::Chains, Mode::Runs, Mode::Damaged, Mode::Short];
+
+    pub fn name(self) -> &'static str {
+        match self {
+            Mode::Mixed => "mixed",
+            Mode::Forest => "forest",
+            Mode::Chains => "chains",
+            Mode::Runs => "runs",
+            Mode::Damaged => "damaged",
+            Mode::Short => "short",
+        }
+    }
+
+    pub fn from_name(name: &str) -> Option<Mode> {
+        Mode::ALL.into_iter().find(|mode| mode.name() == name)
+    }
+}
+
+/// The book of this mode, seed and index: always the same bytes.
+pub fn book(mode: Mode, seed: u64, index: u64) -> Vec<u8> {
+    let r = &mut Random::new(mode as u64, seed, index);
+    match mode {
+        Mode::Mixed => mixed::book(r).encode(),
+        Mode::Forest => forest::book(r).encode(),
+        Mode::Chains => chains::book(r).encode(),
+        Mode::Runs => runs::book(r).encode(),
+        Mode::Damaged => damaged::book(r),
+        Mode::Short => short::book(r, index),
+    }
+}
+
+/// Ids worth asking about in a book's two questions (1 to 4): from its parents table, its snapshot and subvolume keys, and some that are absent.
+pub fn asked(bytes: &[u8], seed: u64, index: u64) -> Vec<u32> {
+    let r = &mut Random::new(Mode::ALL.len() as u64, seed, index);
+    let book = Book::decode(bytes).unwrap_or_default();
+    (0..=r.below(4)).map(|_| asked_id(r, &book)).collect()
+}
+
+fn asked_id(r: &mut Random, book: &Book) -> u32 {
+    match r.below(8) {
+        0 | 1 => parent_entry(r, book),
+        2..=4 => key_id(r, book, |k| k.btree == values::SNAPSHOTS),
+        5 => key_id(r, book, |k| k.btree == values::SUBVOLUMES),
+        6 => key_id(r, book, |k| k.btree == values::SUBVOLUMES && !is_live(k)),
+        _ => r.edge_32(),
+    }
+}
+
+fn is_live(key: &Key) -> bool {
+    values::word(&key.value, 40) == Some(values::SUBVOLUME_STATES[0])
+}
+
+/// An id or a parent word of the parents table, or a neighbour.
+fn parent_entry(r: &mut Random, book: &Book) -> u32 {
+    if book.parents.is_empty() {
+        return r.below(8) as u32;
+    }
+    let (id, parent) = match r.below(4) {
+        0 => book.parents[0],
+        1 => book.parents[book.parents.len() - 1],
+        _ => r.pick(&book.parents),
+    };
+    match r.below(8) {
+        0 => id.wrapping_add(1),
+        1 | 2 => parent,
+        _ => id,
+    }
+}
+
+/// The low half of the offset of a key that meets a condition, else an entry of the parents table.
+fn key_id(r: &mut Random, book: &Book, wanted: impl Fn(&Key) -> bool) -> u32 {
+    let first = if book.keys.is_empty() { 0 } else { r.place(book.keys.len()) };
+    let (before, from) = book.keys.split_at(first);
+    let found = from.iter().chain(before).find(|k| wanted(k));
+    match found {
+        Some(key) => key.offset as u32,
+        None => parent_entry(r, book),
+    }
+}

@@ -1,0 +1,141 @@
+//! The published rules over a book: called in document 01's order over maps made from the book, their detail texts read back into numbers.
+use crate::layout::Book;
+use crate::texts;
+use reference::bkey::{Bkey, Bpos};
+use reference::check::Report;
+use reference::superblock::{Member, Version};
+use reference::{Published, Rules, Trees};
+use std::collections::{BTreeMap, BTreeSet};
+
+const SNAPSHOTS: u8 = 9;
+const FREESPACE: u8 = 11;
+const SNAPSHOT_TREES: u8 = 15;
+
+#[derive(Clone, Copy, Debug, PartialEq, Eq)]
+pub struct Finding {
+    pub kind: u8,
+    pub subject: u64,
+    pub object: u64,
+}
+
+/// A book as the published rules take it.
+pub struct Maps {
+    version: Version,
+    device: u64,
+    member: Member,
+    parents: BTreeMap<u32, u32>,
+    subvolumes: BTreeMap<u32, (u64, u32)>,
+    gens: BTreeMap<u64, u8>,
+    alloc: BTreeMap<u64, Option<u8>>,
+    /// Every key with its btree, in the order of the book.
+    keys: Vec<(u8, Bkey)>,
+    /// The keys of each btree, in the order of the book. The snapshot_trees btree is there exactly if the book's mark is set.
+    trees: Trees,
+}
+
+/// What the rules said: their problems, how many there were after each key, and the unavailable subvolumes.
+pub struct Said {
+    report: Report,
+    after: Vec<usize>,
+    pub unavailable: BTreeSet<u32>,
+}
+
+impl Maps {
+    pub fn of(book: &Book) -> Maps {
+        let keys: Vec<(u8, Bkey)> = book
+            .keys
+            .iter()
+            .map(|k| {
+                let pos = Bpos { inode: k.inode, offset: k.offset, snapshot: k.snapshot };
+                (k.btree, Bkey { key_type: k.key_type, size: k.size, version_hi: 0, version_lo: 0, pos, value: k.value.clone() })
+            })
+            .collect();
+        let mut trees = Trees::new();
+        if book.mark {
+            trees.insert(SNAPSHOT_TREES, Vec::new());
+        }
+        for (btree, key) in &keys {
+            trees.entry(*btree).or_default().push(key.clone());
+        }
+        Maps {
+            version: Version(book.version),
+            device: book.device,
+            member: Member { uuid: [0; 16], nbuckets: book.buckets, first_bucket: book.first_bucket, bucket_size: 0, last_mount: 0 },
+            parents: book.parents.iter().copied().collect(),
+            // the root inode of a subvolume is in no book, and no rule reads it
+            subvolumes: book.subvolumes.iter().map(|&(id, snapshot)| (id, (0, snapshot))).collect(),
+            gens: book.gens.iter().copied().collect(),
+            alloc: book.alloc.iter().copied().collect(),
+            keys,
+            trees,
+        }
+    }
+
+    /// The rules in document 01's order. This is what is timed as the Rust rules' own time.
+    pub fn judge(&self) -> Said {
+        let mut r = Report::default();
+        let mut after = Vec::with_capacity(self.keys.len());
+        for (btree, key) in &self.keys {
+            Published::check_key_device(*btree, key, self.device, &mut r);
+            Published::check_key_fields(*btree, key, &mut r);
+            Published::check_state_words(self.version, *btree, key, &mut r);
+            after.push(r.problems.len());
+        }
+        let unavailable = Published::subvolume_states(&self.trees, &mut r);
+        Published::snapshot_claims(&self.trees, &mut r);
+        Published::snapshot_states(&self.trees, &mut r);
+        Published::snapshot_subvol_flags(&self.trees, &mut r);
+        Published::subvolume_children(&self.trees, &mut r);
+        Published::snapshot_links(&self.trees, &self.parents, &self.subvolumes, &mut r);
+        Published::bucket_gens_against_alloc(&self.trees, &self.gens, self.device, &mut r);
+        let runs = self.trees.get(&FREESPACE).map_or(&[][..], |keys| keys);
+        Published::free_space(runs, &self.alloc, self.device, &self.member, &mut r);
+        Said { report: r, after, unavailable }
+    }
+
+    /// The root above an id and the number of links to it, or none. The published program computes them inside `snapshot_links` alone: so a
+    /// snapshot of this id is judged whose depth is wrong for every chain, and which names a tree whose root is 0; the texts of kinds 42 and 41
+    /// then tell both.
+    pub fn ancestor(&self, id: u32) -> Option<(u32, u32)> {
+        let key = |key_type, offset, value| Bkey {
+            key_type,
+            size: 0,
+            version_hi: 0,
+            version_lo: 0,
+            pos: Bpos { inode: 0, offset, snapshot: 0 },
+            value,
+        };
+        let mut snapshot = vec![0; 40];
+        snapshot[20..24].copy_from_slice(&1u32.to_le_bytes());
+        snapshot[24..28].copy_from_slice(&u32::MAX.to_le_bytes());
+        let trees = Trees::from([(SNAPSHOTS, vec![key(22, u64::from(id), snapshot)]), (SNAPSHOT_TREES, vec![key(31, 1, vec![0; 8])])]);
+        let mut r = Report::default();
+        Published::snapshot_links(&trees, &self.parents, &self.subvolumes, &mut r);
+        let text = |kind| r.problems.iter().find(|p| p.kind == kind).map(|p| p.detail.as_str());
+        let links = texts::number_after(text("snapshot_bad_depth")?, "but it has ");
+        let root = text("snapshot_to_bad_snapshot_tree").map_or(0, |t| texts::number_after(t, "but its own root is "));
+        Some((root as u32, links as u32))
+    }
+}
+
+impl Said {
+    /// The findings in numbers. A text that no template matches stops the program.
+    pub fn findings(&self) -> Vec<Finding> {
+        let key_of = |at: usize| self.after.partition_point(|&end| end <= at);
+        let problems = self.report.problems.iter().enumerate();
+        problems
+            .map(|(at, p)| {
+                let mut found = texts::read(p.kind, &p.detail);
+                if found.kind <= texts::LAST_KEY_KIND {
+                    (found.subject, found.object) = (key_of(at) as u64, 0);
+                }
+                found
+            })
+            .collect()
+    }
+
+    /// How many findings there are.
+    pub fn count(&self) -> usize {
+        self.report.problems.len()
+    }
+}

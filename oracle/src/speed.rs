@@ -1,0 +1,217 @@
+//! Times both programs on the same books in the same run: Dockwrench whole, from bytes to findings; the published rules alone, over maps made before.
+use crate::books::{self, Mode};
+use crate::layout::{Book, Key, HEADER_BYTES, KEY_HEAD_BYTES, LONGEST_BOOK};
+use crate::library;
+use crate::published::Maps;
+use std::hint::black_box;
+use std::time::{Duration, Instant};
+
+const SUBVOLUMES: u8 = 8;
+const SNAPSHOTS: u8 = 9;
+const FREESPACE: u8 = 11;
+const SNAPSHOT_TREES: u8 = 15;
+const SUBVOLUME_CHILDREN: u8 = 19;
+const KEY_SUBVOLUME: u8 = 21;
+const KEY_SNAPSHOT: u8 = 22;
+const KEY_SET: u8 = 25;
+const KEY_SNAPSHOT_TREE: u8 = 31;
+const SUBVOL_DELETED: u32 = 0x3c6b_2d4c;
+const SNAP_LIVE: u32 = 0x757c_47a2;
+/// Before 1.39, where a state is not asked for.
+const VERSION: u16 = 1062;
+
+/// How long each program is run on a book in a round, and the rounds; the shortest time of all rounds counts.
+const ROUND: Duration = Duration::from_millis(60);
+const ROUNDS: usize = 7;
+
+/// The books of docs/SPEED.md, each with its name.
+pub fn rows() -> Vec<(&'static str, Book)> {
+    vec![
+        ("37,000 free runs in no order", free_runs()),
+        ("13 chains of 1,000 snapshots", chains()),
+        ("15,000 keys at the foot of 1,024 links", foot()),
+        ("a mixed book of 1 MiB", mixed(LONGEST_BOOK)),
+        ("7,000 deleted subvolumes", deleted()),
+        ("20,000 subvolume children", children()),
+        ("65,535 parents with one key", parents()),
+        ("a smallest book (one key)", Book { keys: vec![key(FREESPACE, KEY_SET, 0, &[])], ..empty() }),
+    ]
+}
+
+fn empty() -> Book {
+    Book { mark: true, version: VERSION, ..Book::default() }
+}
+
+/// A key at offset `offset`, its value these words.
+fn key(btree: u8, key_type: u8, offset: u64, words: &[u32]) -> Key {
+    Key { btree, key_type, offset, value: words.iter().flat_map(|w| w.to_le_bytes()).collect(), ..Key::default() }
+}
+
+/// Words of a value, all zero but for these.
+fn words<const N: usize>(set: &[(usize, u32)]) -> [u32; N] {
+    let mut all = [0; N];
+    set.iter().for_each(|&(at, word)| all[at] = word);
+    all
+}
+
+/// Runs of four buckets each that hold all buckets, so that there is nothing to find.
+fn free_runs() -> Book {
+    let count = 37_000;
+    let run = |i: u64| Key { size: 4, ..key(FREESPACE, KEY_SET, 4 * (i * 7_919 % count + 1), &[]) };
+    Book { buckets: 4 * count, keys: (0..count).map(run).collect(), ..empty() }
+}
+
+/// A sound snapshot at `depth` of the chain of ids from `root` on.
+fn snapshot(root: u32, depth: u32, length: u32, tree: u32) -> Key {
+    let id = root + depth;
+    let child = if depth + 1 < length { id + 1 } else { 0 };
+    let (parent, skip) = if depth == 0 { (0, 0) } else { (id - 1, root) };
+    key(SNAPSHOTS, KEY_SNAPSHOT, u64::from(id), &[0, parent, child, 0, 0, tree, depth, skip, skip, skip])
+}
+
+fn chains() -> Book {
+    let (mut book, length) = (empty(), 1_000);
+    for tree in 1..=13 {
+        let root = 1 + (tree - 1) * length;
+        book.keys.push(key(SNAPSHOT_TREES, KEY_SNAPSHOT_TREE, u64::from(tree), &[1, root]));
+        for depth in 0..length {
+            book.parents.push((root + depth, if depth == 0 { 0 } else { root + depth - 1 }));
+            book.keys.push(snapshot(root, depth, length, tree));
+        }
+    }
+    // all trees name subvolume 1, whose snapshot no tree has
+    book.subvolumes.push((1, u32::MAX));
+    book
+}
+
+fn foot() -> Book {
+    let links = 1_024;
+    let mut book = empty();
+    book.parents = (0..=links).map(|depth| (1 + depth, depth)).collect();
+    book.subvolumes.push((1, u32::MAX));
+    book.keys = vec![snapshot(1, links, links + 1, 1); 15_000];
+    book.keys.push(snapshot(1, 0, links + 1, 1));
+    book.keys.push(key(SNAPSHOT_TREES, KEY_SNAPSHOT_TREE, 1, &[1, 1]));
+    book
+}
+
+/// As many keys of mixed books as go into so many bytes, with the tables of one in every hundred of them.
+pub fn mixed(bytes: usize) -> Book {
+    let mut book = empty();
+    book.device = 1;
+    let mut left = bytes - HEADER_BYTES;
+    for index in 0.. {
+        let Ok(part) = Book::decode(&books::book(Mode::Mixed, 5, index)) else { continue };
+        if index % 100 == 0 {
+            let tables = 8 * part.parents.len() + 8 * part.subvolumes.len() + 9 * part.gens.len() + 10 * part.alloc.len();
+            if tables < left {
+                left -= tables;
+                join(&mut book, part.clone());
+            }
+        }
+        for key in part.keys {
+            let size = KEY_HEAD_BYTES + key.value.len();
+            if size > left {
+                sort(&mut book);
+                return book;
+            }
+            left -= size;
+            book.keys.push(key);
+        }
+    }
+    book
+}
+
+fn join(book: &mut Book, part: Book) {
+    book.parents.extend(part.parents);
+    book.subvolumes.extend(part.subvolumes);
+    book.gens.extend(part.gens);
+    book.alloc.extend(part.alloc);
+}
+
+/// Puts the tables in order, each id once.
+fn sort(book: &mut Book) {
+    book.parents.sort();
+    book.parents.dedup_by_key(|e| e.0);
+    book.subvolumes.sort();
+    book.subvolumes.dedup_by_key(|e| e.0);
+    book.gens.sort();
+    book.gens.dedup_by_key(|e| e.0);
+    book.alloc.sort();
+    book.alloc.dedup_by_key(|e| e.0);
+}
+
+/// Deleted subvolumes, and 6,000 live snapshots that name others, so that there is nothing to find.
+fn deleted() -> Book {
+    let subvolume = |id: u64| key(SUBVOLUMES, KEY_SUBVOLUME, id, &words::<11>(&[(10, SUBVOL_DELETED)]));
+    let live = |id: u32| key(SNAPSHOTS, KEY_SNAPSHOT, u64::from(id), &words::<15>(&[(0, 2), (4, 100_000 + id), (14, SNAP_LIVE)]));
+    let mut keys: Vec<Key> = (0..7_000).map(|i| subvolume(2 + i * 3_001 % 7_000)).collect();
+    keys.extend((1..=6_000).map(live));
+    Book { mark: false, keys, ..empty() }
+}
+
+/// 20,000 entries for 9,000 subvolumes, so that some are there twice; there is nothing to find.
+fn children() -> Book {
+    let parent = |child: u64| child % 97 + 1;
+    let subvolume = |child: u64| key(SUBVOLUMES, KEY_SUBVOLUME, child, &words::<6>(&[(1, child as u32), (5, parent(child) as u32)]));
+    let entry = |i: u64| {
+        let child = 1 + i * 4_001 % 9_000;
+        Key { inode: parent(child), ..key(SUBVOLUME_CHILDREN, KEY_SET, child, &[]) }
+    };
+    let keys = (0..20_000).map(entry).chain((1..=9_000).map(subvolume)).collect();
+    Book { mark: false, keys, ..empty() }
+}
+
+/// A parents table as long as it can be, of one chain, and the snapshot at its foot, which has no root within 1,024 links.
+fn parents() -> Book {
+    let count = u32::from(u16::MAX);
+    let mut book = empty();
+    book.parents = (1..=count).map(|id| (id, id - 1)).collect();
+    book.keys.push(key(SNAPSHOTS, KEY_SNAPSHOT, u64::from(count), &[0; 10]));
+    book
+}
+
+/// The shortest times on a book: Dockwrench whole, the published rules alone, and one pass over the bytes. Also how many findings there are.
+pub struct Times {
+    pub ours: Duration,
+    pub rust: Duration,
+    pub pass: Duration,
+    pub findings: usize,
+}
+
+pub fn times(book: &Book) -> Times {
+    let bytes = book.encode();
+    let maps = Maps::of(book);
+    let findings = maps.judge().count();
+    let mut buffer = vec![0; findings * library::FINDING_BYTES];
+    let mut work = vec![0; 2 * book.keys.len()];
+    let answer = library::check(&bytes, &mut buffer, &mut work);
+    assert_eq!((answer.number, answer.count as usize), (0, findings), "both find the same number");
+    let mut best = [Duration::MAX; 3];
+    for _ in 0..ROUNDS {
+        best[0] = best[0].min(round(|| library::check(black_box(&bytes), &mut buffer, &mut work)));
+        best[1] = best[1].min(round(|| black_box(&maps).judge()));
+        best[2] = best[2].min(round(|| pass(black_box(&bytes))));
+    }
+    Times { ours: best[0], rust: best[1], pass: best[2], findings }
+}
+
+/// One pass over the bytes, one at a time: a sum in which each step needs the one before.
+fn pass(bytes: &[u8]) -> u64 {
+    bytes.iter().fold(0u64, |sum, &b| sum.rotate_left(5) ^ u64::from(b))
+}
+
+/// The shortest time of one call in a round.
+fn round<T>(mut call: impl FnMut() -> T) -> Duration {
+    let (begin, mut best) = (Instant::now(), Duration::MAX);
+    while begin.elapsed() < ROUND || best == Duration::MAX {
+        // short calls are timed together
+        let (start, mut calls) = (Instant::now(), 0);
+        while calls == 0 || start.elapsed() < Duration::from_micros(20) {
+            black_box(call());
+            calls += 1;
+        }
+        best = best.min(start.elapsed() / calls);
+    }
+    best
+}
