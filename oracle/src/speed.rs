@@ -145,20 +145,22 @@ fn sort(book: &mut Book) {
 fn deleted() -> Book {
     let subvolume = |id: u64| key(SUBVOLUMES, KEY_SUBVOLUME, id, &words::<11>(&[(10, SUBVOL_DELETED)]));
     let live = |id: u32| key(SNAPSHOTS, KEY_SNAPSHOT, u64::from(id), &words::<15>(&[(0, 2), (4, 100_000 + id), (14, SNAP_LIVE)]));
-    let mut keys: Vec<Key> = (0..7_000).map(|i| subvolume(2 + i * 3_001 % 7_000)).collect();
+    let mut keys: Vec<Key> = (2..7_002).map(subvolume).collect();
     keys.extend((1..=6_000).map(live));
     Book { mark: false, keys, ..empty() }
 }
 
-/// 20,000 entries for 9,000 subvolumes, so that some are there twice; there is nothing to find.
+/// 20,000 entries for 9,000 subvolumes, so that some are there twice; there is nothing to find. Both btrees are in order.
 fn children() -> Book {
     let parent = |child: u64| child % 97 + 1;
     let subvolume = |child: u64| key(SUBVOLUMES, KEY_SUBVOLUME, child, &words::<6>(&[(1, child as u32), (5, parent(child) as u32)]));
     let entry = |i: u64| {
-        let child = 1 + i * 4_001 % 9_000;
+        let child = 1 + i % 9_000;
         Key { inode: parent(child), ..key(SUBVOLUME_CHILDREN, KEY_SET, child, &[]) }
     };
-    let keys = (0..20_000).map(entry).chain((1..=9_000).map(subvolume)).collect();
+    let mut entries: Vec<Key> = (0..20_000).map(entry).collect();
+    entries.sort_by_key(|e| (e.inode, e.offset));
+    let keys = (1..=9_000).map(subvolume).chain(entries).collect();
     Book { mark: false, keys, ..empty() }
 }
 
