@@ -63,9 +63,7 @@ impl Areas {
         self.work.clear();
         self.work.resize(words + BEYOND, FILL_WORD);
         // SAFETY: each pointer is good for its length, and the three areas are apart.
-        let packed = unsafe {
-            dockwrench_check(book.as_ptr(), book.len(), self.findings.as_mut_ptr(), room, self.work.as_mut_ptr(), words)
-        };
+        let packed = unsafe { dockwrench_check(book.as_ptr(), book.len(), self.findings.as_mut_ptr(), room, self.work.as_mut_ptr(), words) };
         let got = Answer::of(packed);
         if got != want.answer {
             return Err(format!("answers {got}, not {}; its buffer begins with {}", want.answer, self.begins_with(room, got.count as usize)));
@@ -107,9 +105,7 @@ impl Areas {
 /// The main call for its time alone.
 pub fn check(book: &[u8], findings: &mut [u8], work: &mut [u64]) -> Answer {
     // SAFETY: each pointer is good for its length, and the three areas are apart.
-    Answer::of(unsafe {
-        dockwrench_check(book.as_ptr(), book.len(), findings.as_mut_ptr(), findings.len(), work.as_mut_ptr(), work.len())
-    })
+    Answer::of(unsafe { dockwrench_check(book.as_ptr(), book.len(), findings.as_mut_ptr(), findings.len(), work.as_mut_ptr(), work.len()) })
 }
 
 pub fn ancestor(book: &[u8], id: u32) -> Answer {

@@ -115,7 +115,12 @@ fn books(path: &str) -> Option<bool> {
         }
         let same = compare::compare(&example.book, &[], &mut library::Areas::new(), &mut Counts::new());
         if found != example.finds || same.is_err() {
-            println!("{path}:{}: the Rust finds {}; {}", example.line, found.join(", "), same.err().unwrap_or("Dockwrench says the same".to_string()));
+            println!(
+                "{path}:{}: the Rust finds {}; {}",
+                example.line,
+                found.join(", "),
+                same.err().unwrap_or("Dockwrench says the same".to_string())
+            );
             wrong += 1;
         }
     }
@@ -148,28 +153,30 @@ fn selftest() -> Option<bool> {
 
 /// The tables of docs/SPEED.md. Fails where Dockwrench takes more than half of the published rules' time.
 fn speed(named: &str) -> Option<bool> {
-    println!("| book | bytes | findings | Dockwrench, µs | Rust rules, µs | ratio | one pass, µs |");
-    println!("|---|---|---|---|---|---|---|");
-    let mut is_ahead = true;
-    for (name, book) in speed::rows().into_iter().filter(|(name, _)| name.contains(named)) {
-        is_ahead &= row(name, &book);
-    }
-    if !named.is_empty() {
-        return Some(is_ahead);
-    }
-    println!("\n| mixed book, KiB | bytes | findings | Dockwrench, µs | Rust rules, µs | ratio | one pass, µs |");
-    println!("|---|---|---|---|---|---|---|");
-    for kib in [1, 4, 16, 64, 256, 1_024] {
-        row(&kib.to_string(), &speed::mixed(1_024 * kib));
+    table("book");
+    let rows = speed::rows().into_iter().filter(|(name, _)| name.contains(named));
+    let is_ahead = rows.fold(true, |is_ahead, (name, book)| row(name, &book) && is_ahead);
+    if named.is_empty() {
+        println!();
+        table("mixed book, KiB");
+        for kib in [1, 4, 16, 64, 256, 1_024] {
+            row(&kib.to_string(), &speed::mixed(1_024 * kib));
+        }
     }
     Some(is_ahead)
+}
+
+fn table(first: &str) {
+    println!("| {first} | bytes | findings | Dockwrench, µs | Rust rules, µs | ratio | Rust with maps, µs | one pass, µs |");
+    println!("|---|---|---|---|---|---|---|---|");
 }
 
 fn row(name: &str, book: &layout::Book) -> bool {
     let t = speed::times(book);
     let micros = |d: std::time::Duration| d.as_secs_f64() * 1e6;
+    let shown = |d| format!("{:.*}", if micros(d) < 10.0 { 2 } else { 0 }, micros(d));
     let ratio = micros(t.ours) / micros(t.rust);
-    let bytes = book.encode().len();
-    println!("| {name} | {bytes} | {} | {:.1} | {:.1} | {ratio:.2} | {:.1} |", t.findings, micros(t.ours), micros(t.rust), micros(t.pass));
+    let (bytes, ours, rust, with_maps, pass) = (book.encode().len(), shown(t.ours), shown(t.rust), shown(t.with_maps), shown(t.pass));
+    println!("| {name} | {bytes} | {} | {ours} | {rust} | {ratio:.2} | {with_maps} | {pass} |", t.findings);
     ratio <= 0.5
 }

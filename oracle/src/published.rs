@@ -97,14 +97,8 @@ impl Maps {
     /// snapshot of this id is judged whose depth is wrong for every chain, and which names a tree whose root is 0; the texts of kinds 42 and 41
     /// then tell both.
     pub fn ancestor(&self, id: u32) -> Option<(u32, u32)> {
-        let key = |key_type, offset, value| Bkey {
-            key_type,
-            size: 0,
-            version_hi: 0,
-            version_lo: 0,
-            pos: Bpos { inode: 0, offset, snapshot: 0 },
-            value,
-        };
+        let key =
+            |key_type, offset, value| Bkey { key_type, size: 0, version_hi: 0, version_lo: 0, pos: Bpos { inode: 0, offset, snapshot: 0 }, value };
         let mut snapshot = vec![0; 40];
         snapshot[20..24].copy_from_slice(&1u32.to_le_bytes());
         snapshot[24..28].copy_from_slice(&u32::MAX.to_le_bytes());

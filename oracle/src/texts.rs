@@ -59,10 +59,7 @@ const KINDS: [(&str, &[&str]); 50] = [
     ("snapshot_subvol_state_mismatch", &["snapshot {P} is live but its subvolume {o} is deleted"]),
     (
         "snapshot_tree_to_missing_subvol",
-        &[
-            "snapshot tree {P} names deleted subvolume {o}",
-            "snapshot tree {s} names subvolume {o}, which the subvolumes btree does not have",
-        ],
+        &["snapshot tree {P} names deleted subvolume {o}", "snapshot tree {s} names subvolume {o}, which the subvolumes btree does not have"],
     ),
     ("snapshot_claimed_twice", &["snapshot {s} is claimed by subvolumes {L}"]),
     ("snapshot_deleted_but_subvol_live", &["snapshot {P}: will_delete, and its subvolume is live"]),
@@ -70,10 +67,7 @@ const KINDS: [(&str, &[&str]); 50] = [
     ("snapshot_deleted_but_has_data", &["snapshot {P}: state {x}, and keys accounted to it"]),
     (
         "snapshot_subvol_flag_wrong",
-        &[
-            "snapshot {s}: the subvol flag is set, and it names subvolume {o}",
-            "snapshot {s}: the subvol flag is clear, and it names subvolume {o}",
-        ],
+        &["snapshot {s}: the subvol flag is set, and it names subvolume {o}", "snapshot {s}: the subvol flag is clear, and it names subvolume {o}"],
     ),
     ("subvol_children_entry_missing", &["subvolume {s} has parent {o} and no entry at {n}:{n}"]),
     (
@@ -85,10 +79,7 @@ const KINDS: [(&str, &[&str]); 50] = [
     ),
     (
         "snapshot_tree_to_bad_root_snapshot",
-        &[
-            "snapshot tree {s}'s root snapshot {o} is in tree {n}",
-            "snapshot tree {s}'s root snapshot {o} is not in the snapshots btree",
-        ],
+        &["snapshot tree {s}'s root snapshot {o} is in tree {n}", "snapshot tree {s}'s root snapshot {o} is not in the snapshots btree"],
     ),
     ("snapshot_tree_to_wrong_subvol", &["snapshot tree {s} names subvolume {o}, whose snapshot {n} is in tree {n}"]),
     (
