@@ -109,7 +109,9 @@ pub fn mixed(bytes: usize) -> Book {
                 join(&mut book, part.clone());
             }
         }
-        for key in part.keys {
+        for mut key in part.keys {
+            // ids of its own for each part
+            key.offset = if key.offset < 1 << 31 { key.offset + 8 * index } else { key.offset };
             let size = KEY_HEAD_BYTES + key.value.len();
             if size > left {
                 sort(&mut book);
