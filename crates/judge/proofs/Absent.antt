@@ -118,6 +118,7 @@ links-none b e f =
   where
     trees : treeMap b ≡ []
     trees = map-none 15 (holds 15 31 8) idOf (λ k. (masterWord k, rootWord k)) (of-holds 15 31 8) (b .keys) f
+
     only-none : (t : Bool) → only t [] ≡ []
     only-none true = refl
     only-none false = refl
