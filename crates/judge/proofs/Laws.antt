@@ -1,15 +1,19 @@
 -- The rules one after the other.
-use Prim.Native.Nat.{ℕ, _+_, _-_, _<_}
-use mathlib.Core.Path.{_≡_, sym, ap, _∙_}
-use mathlib.Core.List.{List, _∷_, _++_, append-assoc}
+use Prim.Native.Nat.{ℕ, _+_, _-_, _<_, _≤_}
+use mathlib.Core.Path.{_≡_, refl, sym, ap, _∙_}
+use mathlib.Core.Bool.{Bool, true, false, not}
+use mathlib.Core.List.{List, [], _∷_, _++_, append-assoc}
 use lib.ListN.{length, take, drop}
-use Rattle.findings.specs.Findings.{Finding, start, Found, each}
+use lib.Dec.{eqb}
+use borrow.Author.Tests.{eqb-true}
+use Rattle.findings.specs.Findings.{Finding, start, put, Found, each}
 use Rattle.findings.proofs.Laws.{part, back, more-lent}
 use Rattle.book.specs.declared.Header.{Header}
 use Rattle.book.specs.declared.Places.{Places}
 use Rattle.book.specs.declared.KeyHead.{KeyHead}
-use Rattle.book.specs.Book.{keyHead, keyEnd, bkey, keyOf, keysFrom, Book, bookOf}
-use Rattle.book.specs.Walk.{Opened, KeysFit}
+use Rattle.book.specs.Book.{keyHead, keyEnd, bkey, keyOf, keysFrom, tableFrom, Book, bookOf}
+use Rattle.book.specs.declared.KeyFront.{KeyFront}
+use Rattle.book.specs.Walk.{Opened, KeysFit, frontOf}
 use Rattle.book.proofs.Walk.{parts, step, value-part}
 use Rattle.subvolumes.specs.Subvolumes.{subvolumeStates, snapshotClaims}
 use Rattle.deletions.specs.Snapshots.{snapshotStates}
@@ -17,7 +21,12 @@ use Rattle.snapshots.specs.Flags.{snapshotSubvolFlags}
 use Rattle.snapshots.specs.Children.{subvolumeChildren}
 use Rattle.links.specs.Links.{snapshotLinks}
 use Rattle.rules.specs.Rules.{keyFindings, findingsOf}
-use Rattle.judge.specs.Steps.{keyRules, stateRules, snapshotRules, bucketRules, acrossRules}
+use Rattle.buckets.specs.Gens.{bucketGensAgainstAlloc}
+use Rattle.buckets.specs.FreeSpace.{freeSpace}
+use Rattle.walk.proofs.Keys.{keys-none}
+use Rattle.judge.specs.declared.Present.{Present}
+use Rattle.judge.specs.Present.{withBtree, presentWith}
+use Rattle.judge.specs.Steps.{keyRules, subvolumeRules, snapshotRules, firstRules, lastRules, acrossRules}
 
 -- the same findings, said otherwise
 pub found-as : {o o′ : List ℕ} {r : ℕ} {fs gs : List Finding} → fs ≡ gs → Found o fs r o′ → Found o gs r o′
@@ -46,14 +55,37 @@ key-ends s p e = ap (λ (k : KeyHead). k .start + k .len) e
 pub keys-next : (s : List ℕ) (n p : ℕ) {e : ℕ} → 0 < n → KeysFit s n p → e ≡ keyEnd s p → keysFrom s n p ≡ keyOf s (keyHead s p) ∷ keysFrom s (n - 1) e
 keys-next s n p h fit e = rw e (step s n p h fit .keys)
 
+-- nothing is found, and nothing is written
+pub found-none : {o : List ℕ} {fs : List Finding} → fs ≡ [] → Found o fs 0 o
+unfolding put
+found-none e = rw e (record { count = refl; buffer = refl })
+
 -- the parts are the whole list
 pub list-of : (b : Book) → each (keyFindings b) 0 (b .keys) ++ acrossRules b ≡ findingsOf b
-unfolding acrossRules stateRules snapshotRules bucketRules findingsOf
+unfolding acrossRules subvolumeRules snapshotRules firstRules lastRules findingsOf
 list-of b =
     ap (λ (l : List Finding). each (keyFindings b) 0 (b .keys) ++ l)
-    (append-assoc (subvolumeStates b) (snapshotClaims b ++ snapshotStates b) (snapshotRules b ++ bucketRules b)
-    ∙ ap (λ (l : List Finding). subvolumeStates b ++ l)
-    (append-assoc (snapshotClaims b) (snapshotStates b) (snapshotRules b ++ bucketRules b)
-    ∙ ap (λ (l : List Finding). snapshotClaims b ++ (snapshotStates b ++ l))
-    (append-assoc (snapshotSubvolFlags b) (subvolumeChildren b ++ snapshotLinks b) (bucketRules b)
-    ∙ ap (λ (l : List Finding). snapshotSubvolFlags b ++ l) (append-assoc (subvolumeChildren b) (snapshotLinks b) (bucketRules b)))))
+    (append-assoc (subvolumeStates b ++ snapshotClaims b) ((snapshotStates b ++ snapshotSubvolFlags b) ++ subvolumeChildren b) (lastRules b)
+    ∙ append-assoc (subvolumeStates b) (snapshotClaims b) (((snapshotStates b ++ snapshotSubvolFlags b) ++ subvolumeChildren b) ++ lastRules b)
+    ∙ ap (λ (l : List Finding). subvolumeStates b ++ (snapshotClaims b ++ l))
+    (append-assoc (snapshotStates b ++ snapshotSubvolFlags b) (subvolumeChildren b) (lastRules b)
+    ∙ append-assoc (snapshotStates b) (snapshotSubvolFlags b) (subvolumeChildren b ++ lastRules b)))
+
+-- the btrees of the keys passed, with the next key, and with none left
+pub present-next : (q : Present) (s : List ℕ) (n p : ℕ) {e : ℕ} {f : KeyFront} → 0 < n → KeysFit s n p → e ≡ keyEnd s p → f ≡ frontOf (keyHead s p)
+    → presentWith q (keysFrom s n p) ≡ presentWith (withBtree q (f .btree)) (keysFrom s (n - 1) e)
+unfolding presentWith
+present-next q s n p h fit e f = rw (keys-next s n p h fit e, f)
+
+pub present-end : (q : Present) (s : List ℕ) (n p : ℕ) → n ≤ 0 → presentWith q (keysFrom s n p) ≡ q
+unfolding presentWith
+present-end q s n p h = rw (keys-none s n p h)
+
+-- a table of no entries
+pub no-gens : {s : List ℕ} {h : Header} {at : Places} → Opened s h at → not (eqb (h .gens) 0) ≡ false → bookOf s .gens ≡ []
+unfolding tableFrom
+no-gens {s} {h} {at} o e = rw (eqb-true (h .gens) 0 (not-false _ e)) at (parts o .gens)
+  where
+    not-false : (a : Bool) → not a ≡ false → a ≡ true
+    not-false true e = refl
+    not-false false e = sym e

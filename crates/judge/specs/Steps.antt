@@ -19,16 +19,20 @@ use Rattle.rules.specs.Rules.{keyFindings}
 unfoldable pub keyRules : ℕ → ℕ → ℕ → Bkey → List Finding
 keyRules device version i k = checkKeyDevice device i k ++ (checkKeyFields i k ++ checkStateWords version i k)
 
--- the rules in three parts
-unfoldable pub stateRules : Book → List Finding
-stateRules b = subvolumeStates b ++ (snapshotClaims b ++ snapshotStates b)
+-- the rules across keys, by the btrees without whose keys they find nothing
+unfoldable pub subvolumeRules : Book → List Finding
+subvolumeRules b = subvolumeStates b ++ snapshotClaims b
 
 unfoldable pub snapshotRules : Book → List Finding
-snapshotRules b = snapshotSubvolFlags b ++ (subvolumeChildren b ++ snapshotLinks b)
+snapshotRules b = snapshotStates b ++ snapshotSubvolFlags b
 
-unfoldable pub bucketRules : Book → List Finding
-bucketRules b = bucketGensAgainstAlloc b ++ freeSpace b
+-- in two parts
+unfoldable pub firstRules : Book → List Finding
+firstRules b = subvolumeRules b ++ (snapshotRules b ++ subvolumeChildren b)
+
+unfoldable pub lastRules : Book → List Finding
+lastRules b = snapshotLinks b ++ (bucketGensAgainstAlloc b ++ freeSpace b)
 
 -- the eight rules across keys
 unfoldable pub acrossRules : Book → List Finding
-acrossRules b = stateRules b ++ (snapshotRules b ++ bucketRules b)
+acrossRules b = firstRules b ++ lastRules b

@@ -5,12 +5,17 @@ ghost use lib.ListN.{length};
 ghost use Rattle.findings.specs.Findings.{Found, each};
 ghost use Rattle.book.specs.Book.{bkey, bookOf};
 ghost use Rattle.book.specs.Walk.{Opened};
+ghost use Rattle.snapshots.specs.Children.{subvolumeChildren};
+ghost use Rattle.links.specs.Links.{snapshotLinks};
+ghost use Rattle.buckets.specs.Gens.{bucketGensAgainstAlloc};
 ghost use Rattle.rules.specs.Rules.{keyFindings, findingsOf};
+ghost use Rattle.judge.specs.Present.{withBtree, presentIn};
 ghost use Rattle.judge.specs.Steps.{
   keyRules,
-  stateRules,
+  subvolumeRules,
   snapshotRules,
-  bucketRules,
+  firstRules,
+  lastRules,
   acrossRules,
 };
 use book::Header;
@@ -62,41 +67,188 @@ fn judge_keys(book: &[u8], h: Header, at: Places, out: &mut [u8]) -> usize
     n
 }
 
-// The rules on states of subvolumes and snapshots.
-fn judge_states(book: &[u8], h: Header, at: Places, out: &mut [u8], work: &mut [u64]) -> usize
-    requires { ⌜ Opened (now book) h at × (2 * h .keys ≤ length (now work)) ⌝ }
-    ensures found { λ r. ⌜ Found (now (out .entry)) (stateRules (bookOf (now (book .entry)))) r (now (out .exit)) ⌝ }
-    ensures few { λ r. ⌜ r ≤ h .keys * 74903 ⌝ }
+// The btrees of which a book has keys, as far as a rule across keys asks.
+struct Present {
+    subvolumes: bool,
+    snapshots: bool,
+    gens: bool,
+    trees: bool,
+    children: bool,
+}
+
+// Those of p, and the btree b.
+fn with_btree(p: Present, b: u8) -> Present
+    ensures { λ r. ⌜ r ≡ withBtree p b ⌝ }
 {
+    Present {
+        subvolumes: p.subvolumes | (b == 8),
+        snapshots: p.snapshots | (b == 9),
+        gens: p.gens | (b == 14),
+        trees: p.trees | (b == 15),
+        children: p.children | (b == 19),
+    }
+}
+
+// Those of a book: a rule without keys of its btrees has nothing to find, and its walks over the keys are spared.
+fn find_present(book: &[u8], h: Header, at: Places) -> Present
+    requires { ⌜ Opened (now book) h at ⌝ }
+    ensures { λ r. ⌜ r ≡ presentIn (bookOf (now (book .entry)) .keys) ⌝ }
+{
+    let mut present = Present {
+        subvolumes: false,
+        snapshots: false,
+        gens: false,
+        trees: false,
+        children: false,
+    };
+    let mut left = h.keys;
+    let mut p = at.keys;
+    while 0 < left {
+        let f = book::key_front(book, p);
+        present = with_btree(present, f.btree);
+        p = p + 28 + f.len;
+        left -= 1;
+    }
+    present
+}
+
+// The rules on subvolumes alone.
+fn judge_subvolumes(
+    book: &[u8],
+    h: Header,
+    at: Places,
+    p: Present,
+    out: &mut [u8],
+    work: &mut [u64],
+) -> usize
+    requires { ⌜ Opened (now book) h at × (2 * h .keys ≤ length (now work)) × (p ≡ presentIn (bookOf (now book) .keys)) ⌝ }
+    ensures found { λ r. ⌜ Found (now (out .entry)) (subvolumeRules (bookOf (now (book .entry)))) r (now (out .exit)) ⌝ }
+    ensures few { λ r. ⌜ r ≤ h .keys * 74900 ⌝ }
+{
+    if !p.subvolumes {
+        return 0;
+    }
     let a = subvolumes::subvolume_states(book, h, at, out, work);
     let from = start_of(out.len(), a);
-    let b = a + subvolumes::snapshot_claims(book, h, at, &mut out[from..], work);
-    let from = start_of(out.len(), b);
-    b + deletions::snapshot_states(book, h, at, &mut out[from..], work)
+    a + subvolumes::snapshot_claims(book, h, at, &mut out[from..], work)
 }
 
-// The rules on snapshots, their subvolumes and their trees.
-fn judge_snapshots(book: &[u8], h: Header, at: Places, out: &mut [u8], work: &mut [u64]) -> usize
-    requires { ⌜ Opened (now book) h at × (2 * h .keys ≤ length (now work)) ⌝ }
+// The rules on snapshots alone.
+fn judge_snapshots(
+    book: &[u8],
+    h: Header,
+    at: Places,
+    p: Present,
+    out: &mut [u8],
+    work: &mut [u64],
+) -> usize
+    requires { ⌜ Opened (now book) h at × (2 * h .keys ≤ length (now work)) × (p ≡ presentIn (bookOf (now book) .keys)) ⌝ }
     ensures found { λ r. ⌜ Found (now (out .entry)) (snapshotRules (bookOf (now (book .entry)))) r (now (out .exit)) ⌝ }
-    ensures few { λ r. ⌜ r ≤ h .keys * 11 ⌝ }
+    ensures few { λ r. ⌜ r ≤ h .keys * 4 ⌝ }
 {
-    let a = snapshots::snapshot_subvol_flags(book, h, at, out);
+    if !p.snapshots {
+        return 0;
+    }
+    let a = deletions::snapshot_states(book, h, at, out, work);
     let from = start_of(out.len(), a);
-    let b = a + snapshots::subvolume_children(book, h, at, &mut out[from..], work);
-    let from = start_of(out.len(), b);
-    b + links::snapshot_links(book, h, at, &mut out[from..], work)
+    a + snapshots::snapshot_subvol_flags(book, h, at, &mut out[from..])
 }
 
-// The rules on buckets.
-fn judge_buckets(book: &[u8], h: Header, at: Places, out: &mut [u8], work: &mut [u64]) -> usize
-    requires { ⌜ Opened (now book) h at × (2 * h .keys ≤ length (now work)) ⌝ }
-    ensures found { λ r. ⌜ Found (now (out .entry)) (bucketRules (bookOf (now (book .entry)))) r (now (out .exit)) ⌝ }
-    ensures few { λ r. ⌜ r ≤ h .keys * 258 + 196608 ⌝ }
+// The rule on subvolumes and the entries of their parents.
+fn judge_children(
+    book: &[u8],
+    h: Header,
+    at: Places,
+    p: Present,
+    out: &mut [u8],
+    work: &mut [u64],
+) -> usize
+    requires { ⌜ Opened (now book) h at × (2 * h .keys ≤ length (now work)) × (p ≡ presentIn (bookOf (now book) .keys)) ⌝ }
+    ensures found { λ r. ⌜ Found (now (out .entry)) (subvolumeChildren (bookOf (now (book .entry)))) r (now (out .exit)) ⌝ }
+    ensures few { λ r. ⌜ r ≤ h .keys * 2 ⌝ }
 {
-    let n = buckets::bucket_gens_against_alloc(book, h, at, out, work);
-    let from = start_of(out.len(), n);
-    n + buckets::free_space(book, h, at, &mut out[from..], work)
+    if p.subvolumes | p.children {
+        return snapshots::subvolume_children(book, h, at, out, work);
+    }
+    0
+}
+
+// The rule on snapshots and their trees.
+fn judge_links(
+    book: &[u8],
+    h: Header,
+    at: Places,
+    p: Present,
+    out: &mut [u8],
+    work: &mut [u64],
+) -> usize
+    requires { ⌜ Opened (now book) h at × (2 * h .keys ≤ length (now work)) × (p ≡ presentIn (bookOf (now book) .keys)) ⌝ }
+    ensures found { λ r. ⌜ Found (now (out .entry)) (snapshotLinks (bookOf (now (book .entry)))) r (now (out .exit)) ⌝ }
+    ensures few { λ r. ⌜ r ≤ h .keys * 8 ⌝ }
+{
+    if p.snapshots | p.trees {
+        return links::snapshot_links(book, h, at, out, work);
+    }
+    0
+}
+
+// The rule on generations.
+fn judge_gens(
+    book: &[u8],
+    h: Header,
+    at: Places,
+    p: Present,
+    out: &mut [u8],
+    work: &mut [u64],
+) -> usize
+    requires { ⌜ Opened (now book) h at × (2 * h .keys ≤ length (now work)) × (p ≡ presentIn (bookOf (now book) .keys)) ⌝ }
+    ensures found { λ r. ⌜ Found (now (out .entry)) (bucketGensAgainstAlloc (bookOf (now (book .entry)))) r (now (out .exit)) ⌝ }
+    ensures few { λ r. ⌜ r ≤ h .keys * 256 + 65535 ⌝ }
+{
+    if p.gens | (h.gens != 0) {
+        return buckets::bucket_gens_against_alloc(book, h, at, out, work);
+    }
+    0
+}
+
+// The rules up to `subvolume_children`.
+fn judge_first(
+    book: &[u8],
+    h: Header,
+    at: Places,
+    p: Present,
+    out: &mut [u8],
+    work: &mut [u64],
+) -> usize
+    requires { ⌜ Opened (now book) h at × (2 * h .keys ≤ length (now work)) × (p ≡ presentIn (bookOf (now book) .keys)) ⌝ }
+    ensures found { λ r. ⌜ Found (now (out .entry)) (firstRules (bookOf (now (book .entry)))) r (now (out .exit)) ⌝ }
+    ensures few { λ r. ⌜ r ≤ h .keys * 74906 ⌝ }
+{
+    let a = judge_subvolumes(book, h, at, p, out, work);
+    let from = start_of(out.len(), a);
+    let b = a + judge_snapshots(book, h, at, p, &mut out[from..], work);
+    let from = start_of(out.len(), b);
+    b + judge_children(book, h, at, p, &mut out[from..], work)
+}
+
+// The rules from `snapshot_links` on.
+fn judge_last(
+    book: &[u8],
+    h: Header,
+    at: Places,
+    p: Present,
+    out: &mut [u8],
+    work: &mut [u64],
+) -> usize
+    requires { ⌜ Opened (now book) h at × (2 * h .keys ≤ length (now work)) × (p ≡ presentIn (bookOf (now book) .keys)) ⌝ }
+    ensures found { λ r. ⌜ Found (now (out .entry)) (lastRules (bookOf (now (book .entry)))) r (now (out .exit)) ⌝ }
+    ensures few { λ r. ⌜ r ≤ h .keys * 266 + 196608 ⌝ }
+{
+    let a = judge_links(book, h, at, p, out, work);
+    let from = start_of(out.len(), a);
+    let b = a + judge_gens(book, h, at, p, &mut out[from..], work);
+    let from = start_of(out.len(), b);
+    b + buckets::free_space(book, h, at, &mut out[from..], work)
 }
 
 // The eight rules across keys.
@@ -105,11 +257,10 @@ fn judge_across(book: &[u8], h: Header, at: Places, out: &mut [u8], work: &mut [
     ensures found { λ r. ⌜ Found (now (out .entry)) (acrossRules (bookOf (now (book .entry)))) r (now (out .exit)) ⌝ }
     ensures few { λ r. ⌜ r ≤ h .keys * 75172 + 196608 ⌝ }
 {
-    let a = judge_states(book, h, at, out, work);
-    let from = start_of(out.len(), a);
-    let b = a + judge_snapshots(book, h, at, &mut out[from..], work);
-    let from = start_of(out.len(), b);
-    b + judge_buckets(book, h, at, &mut out[from..], work)
+    let p = find_present(book, h, at);
+    let n = judge_first(book, h, at, p, out, work);
+    let from = start_of(out.len(), n);
+    n + judge_last(book, h, at, p, &mut out[from..], work)
 }
 
 // All rules: the full count of findings, which is below 2^32, and in the buffer those that fit.

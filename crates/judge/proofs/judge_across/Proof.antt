@@ -1,7 +1,7 @@
--- The eight rules one after the other.
+-- The eight rules, in two parts.
 use Rattle.book.proofs.Walk.{few-keys}
+use Rattle.findings.proofs.Laws.{more-lent}
 use Rattle.judge.specs.Steps.{acrossRules}
-use Rattle.judge.proofs.Laws.{three-lent}
 use borrow.Author.Needs.{needs}
 use native.Mathlib.Omega.{arith}
 use Rattle.judge.proofs.judge_across.Statement.{statement}
@@ -10,13 +10,10 @@ use Rattle.judge.proofs.judge_across.Tie as tie
 returns : tie.Need-returns
 unfolding acrossRules
 returns c =
-    let one = c .before .before .before .before .before .before .before .before .before .before .before .before .before .before .before .before .before .before .before .before .judge-states in
-    let two = c .before .before .before .before .before .before .before .before .before .before .before .before .judge-snapshots in
-    let three = c .before .before .before .before .judge-buckets in (
-      three-lent (c .before .before .before .before .before .before .before .before .before .before .before .before .before .before .before .start-of .result) (c .before .before .before .before .before .before .before .start-of2 .result) (one .result) (two .result) (three .result) (c .before .before .before .before .before .before .before .before .before .before .before .before .before .before .before .start-of .ensures) (c .before .before .before .before .before .before .before .start-of2 .ensures)
-          (one .ensures .0) (two .ensures .0) (three .ensures .0),
-      omega (arith, one .ensures .1, two .ensures .1, three .ensures .1),
-    )
+    let one = c .before .before .before .before .before .before .before .before .before .before .before .before .judge-first in
+    let two = c .before .before .before .before .judge-last in
+    let from = c .before .before .before .before .before .before .before .start-of in
+    (more-lent (from .result) (one .result) (two .result) (from .ensures) (one .ensures .0) (two .ensures .0), omega (arith, one .ensures .1, two .ensures .1))
 
 pub judge-across-spec : {M : Type 1} → statement M
 judge-across-spec =
@@ -24,17 +21,12 @@ judge-across-spec =
     (tie.spec
     (λ c κs. search needs)
     (λ c κs. search needs)
-    (λ c. search needs)
-    (λ c. search needs)
-    (λ c. search needs)
-    (λ c κs. search needs)
-    (λ c. omega (arith, c .before .before .before .before .before .before .before .before .before .before .before .before .judge-states .ensures .1, c .before .before .before .before .judge-snapshots .ensures .1, few-keys (c .before .before .before .before .before .before .before .before .before .before .before .before .before .before .before .before .before .before .pre .0)))
     (λ c κs. search needs)
     (λ c. search needs)
     (λ c. search needs)
     (λ c. search needs)
     (λ c κs. search needs)
-    (λ c. omega (arith, c .before .before .before .before .before .before .before .before .before .before .before .before .before .before .before .before .before .before .before .before .judge-states .ensures .1, c .before .before .before .before .before .before .before .before .before .before .before .before .judge-snapshots .ensures .1, c .before .before .before .before .judge-buckets .ensures .1, few-keys (c .before .before .before .before .before .before .before .before .before .before .before .before .before .before .before .before .before .before .before .before .before .before .before .before .before .before .pre .0)))
+    (λ c. omega (arith, c .before .before .before .before .before .before .before .before .before .before .before .before .judge-first .ensures .1, c .before .before .before .before .judge-last .ensures .1, few-keys (c .before .before .before .before .before .before .before .before .before .before .before .before .before .before .before .before .before .before .before .pre .0)))
     (λ c. search needs)
     (λ c. search needs)
     returns)

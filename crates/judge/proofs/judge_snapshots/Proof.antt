@@ -1,40 +1,37 @@
--- The rules on snapshots one after the other.
+-- Without snapshots there is nothing to find; else one rule after the other.
 use Rattle.book.proofs.Walk.{few-keys}
+use Rattle.findings.proofs.Laws.{more-lent}
 use Rattle.judge.specs.Steps.{snapshotRules}
-use Rattle.judge.proofs.Laws.{three-lent}
+use Rattle.judge.proofs.Laws.{found-none}
+use Rattle.judge.proofs.Absent.{not-true, lacks-snapshots, snapshots-none}
 use borrow.Author.Needs.{needs}
 use native.Mathlib.Omega.{arith}
 use Rattle.judge.proofs.judge_snapshots.Statement.{statement}
 use Rattle.judge.proofs.judge_snapshots.Tie as tie
 
 returns : tie.Need-returns
+returns c = (found-none (snapshots-none _ (lacks-snapshots _ (c .before .before .before .before .before .pre .2) (not-true _ (c .if1 .taken)))), omega arith)
+
+returns-2 : tie.Need-returns-2
 unfolding snapshotRules
-returns c =
-    let one = c .before .before .before .before .before .before .before .before .before .before .before .before .before .before .before .before .before .before .snapshot-subvol-flags in
-    let two = c .before .before .before .before .before .before .before .before .before .before .before .before .subvolume-children in
-    let three = c .before .before .before .before .snapshot-links in (
-      three-lent (c .before .before .before .before .before .before .before .before .before .before .before .before .before .before .before .start-of .result) (c .before .before .before .before .before .before .before .start-of2 .result) (one .result) (two .result) (three .result) (c .before .before .before .before .before .before .before .before .before .before .before .before .before .before .before .start-of .ensures) (c .before .before .before .before .before .before .before .start-of2 .ensures)
-          (one .ensures .0) (two .ensures .0) (three .ensures .0),
-      omega (arith, one .ensures .1, two .ensures .1, three .ensures .1),
-    )
+returns-2 c =
+    let one = c .before .before .before .before .before .before .before .before .before .snapshot-states in
+    let two = c .before .before .snapshot-subvol-flags in
+    let from = c .before .before .before .before .start-of in
+    (more-lent (from .result) (one .result) (two .result) (from .ensures) (one .ensures .0) (two .ensures .0), omega (arith, one .ensures .1, two .ensures .1))
 
 pub judge-snapshots-spec : {M : Type 1} → statement M
 judge-snapshots-spec =
     tie.close
     (tie.spec
+    returns
     (λ c κs. search needs)
     (λ c κs. search needs)
     (λ c. search needs)
     (λ c. search needs)
     (λ c. search needs)
     (λ c κs. search needs)
-    (λ c. omega (arith, c .before .before .before .before .before .before .before .before .before .before .snapshot-subvol-flags .ensures .1, c .before .before .before .before .subvolume-children .ensures .1, few-keys (c .before .before .before .before .before .before .before .before .before .before .before .before .before .before .before .pre .0)))
-    (λ c κs. search needs)
+    (λ c. omega (arith, c .before .before .before .before .before .before .before .before .before .snapshot-states .ensures .1, c .before .before .snapshot-subvol-flags .ensures .1, few-keys (c .before .before .before .before .before .before .before .before .before .before .before .before .before .before .before .before .before .pre .0)))
     (λ c. search needs)
     (λ c. search needs)
-    (λ c. search needs)
-    (λ c κs. search needs)
-    (λ c. omega (arith, c .before .before .before .before .before .before .before .before .before .before .before .before .before .before .before .before .before .before .snapshot-subvol-flags .ensures .1, c .before .before .before .before .before .before .before .before .before .before .before .before .subvolume-children .ensures .1, c .before .before .before .before .snapshot-links .ensures .1, few-keys (c .before .before .before .before .before .before .before .before .before .before .before .before .before .before .before .before .before .before .before .before .before .before .before .pre .0)))
-    (λ c. search needs)
-    (λ c. search needs)
-    returns)
+    returns-2)

@@ -1,0 +1,12 @@
+-- Field by field.
+use mathlib.Core.Path.{refl}
+use Rattle.judge.specs.Present.{withBtree}
+use Rattle.judge.proofs.with_btree.Statement.{statement}
+use Rattle.judge.proofs.with_btree.Tie as tie
+
+returns : tie.Need-returns
+unfolding withBtree
+returns c = refl
+
+pub with-btree-spec : {M : Type 1} → statement M
+with-btree-spec = tie.close (tie.spec returns)
