@@ -1,9 +1,12 @@
-// Sorts 300 pairs, then once more as they are sorted, writes them, and looks some up.
+// Sorts 300 pairs, then once more as they are sorted, writes them, and looks some up. Then sorts and writes examples of other sizes and orders.
 ghost use Prim.Native.Nat.{_*_, _≤_, _<_};
 ghost use lib.ListN.{length};
 ghost use Rattle.pairs.specs.Pairs.{pairsOf, Sorted};
 
 const LARGEST: u64 = 0xffff_ffff_ffff_ffff;
+
+// Sizes of examples: ranges of more than 20 pairs are partitioned.
+const SIZES: [u8; 9] = [0, 1, 2, 19, 20, 21, 22, 65, 200];
 
 // The next of a run of numbers below 65536.
 fn next(x: u64) -> u64
@@ -83,6 +86,64 @@ fn look_all(w: &[u64], n: usize)
     look(w, n, LARGEST, LARGEST);
 }
 
+// The byte at i, as a wider number.
+fn byte(s: &[u8], i: usize) -> usize
+    requires { ⌜ i < length (now s) ⌝ }
+    ensures { λ r. ⌜ r < 256 ⌝ }
+{
+    s[i] as usize
+}
+
+// Puts n pairs of few values: a first word below `kinds`, and a second word below 4.
+fn fill_few(w: &mut [u64], n: usize, kinds: u64)
+    requires { ⌜ (2 * n ≤ length (now w)) × (0 < kinds) ⌝ }
+{
+    let mut x: u64 = 1;
+    let mut i = 0;
+    while i < n {
+        x = next(x);
+        pairs::put_pair(w, i, x / 16 % kinds, x / 4096 % 4);
+        i += 1;
+    }
+}
+
+// Sorts pairs of few values, for each size, and writes them.
+fn few(w: &mut [u64], sizes: &[u8], kinds: u64)
+    requires { ⌜ (510 ≤ length (now w)) × (0 < kinds) ⌝ }
+{
+    let mut i = 0;
+    while i < sizes.len() {
+        let n = byte(sizes, i);
+        line(n as u64, kinds);
+        fill_few(w, n, kinds);
+        pairs::sort_pairs(w, n);
+        show(w, n);
+        i += 1;
+    }
+}
+
+// Puts a pair for each byte: the byte, and its place.
+fn fill_by(w: &mut [u64], bytes: &[u8])
+    requires { ⌜ 2 * length (now bytes) ≤ length (now w) ⌝ }
+{
+    let mut i = 0;
+    while i < bytes.len() {
+        pairs::put_pair(w, i, byte(bytes, i) as u64, i as u64);
+        i += 1;
+    }
+}
+
+// Sorts and writes examples. The order of the last has medians that part it so badly that it is sorted by way of a heap.
+fn examples(w: &mut [u64])
+    requires { ⌜ 510 ≤ length (now w) ⌝ }
+{
+    few(w, &SIZES, 1000);
+    few(w, &SIZES, 2);
+    fill_by(w, b":;,<0=4>8?@ABCDEFGHIJK%'#LMNO62.*&(P$QRS7531/-+)");
+    pairs::sort_pairs(w, 48);
+    show(w, 48);
+}
+
 fn main() {
     let mut words = [0u64; 600];
     let w: &mut [u64] = &mut words;
@@ -94,4 +155,5 @@ fn main() {
     pairs::sort_pairs(w, 300);
     show(w, 300);
     look_all(w, 300);
+    examples(w);
 }
