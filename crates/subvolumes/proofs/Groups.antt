@@ -1,180 +1,184 @@
--- The pairs of a group give the findings of the keys that are in it.
-use Prim.Native.Nat.{ℕ, zero, suc, _+_, _*_, _/_, _%_, _^_, _≤_, _<_}
-use mathlib.Core.Path.{_≡_, refl, sym, ap, ap₂, _∙_}
-use mathlib.Core.Bool.{Bool, true, false, true≢false, cond, _&&_, _||_}
+-- The pairs of a group: where they start and end among sorted pairs, and a walk over them.
+use Prim.Native.Nat.{ℕ, zero, suc, _+_, _-_, _*_, _/_, _%_, _^_, _≤_, _<_}
+use mathlib.Core.Path.{_≡_, refl, sym, ap, _∙_}
 use mathlib.Core.List.{List, [], _∷_, _++_, append-nil}
-use native.Mathlib.Nat.{le-antisymm}
+use native.Mathlib.Nat.{add-zero, le-refl}
 use native.Mathlib.Numerals.{add-one}
 use native.Mathlib.Omega.{arith}
-use lib.ListN.{length, getD}
-use lib.Dec.{eqb, leb}
-use borrow.Author.Tests.{eq-eqb, ne-eqb, leb-true, eqb-true}
-use Rattle.bits.specs.Bits.{leAt}
-use Rattle.bits.proofs.Laws.{bits-lt}
-use Rattle.findings.specs.Findings.{Finding, finding, when, only, each, Added}
-use Rattle.findings.proofs.Laws.{added-nil, added-as, added-more}
+use lib.ListN.{length, getD, take, drop, length-drop, take-append-drop}
+use lib.Dec.{eqb}
+use borrow.Author.Tests.{eq-eqb, ne-eqb}
+use Rattle.findings.specs.Findings.{Finding, finding, only, each, start, putFrom, Added}
+use Rattle.findings.proofs.Laws.{put-full, added-nil, added-as, added-more}
 use Rattle.findings.proofs.Walk.{each-any, each-append}
-use Rattle.pairs.specs.Pairs.{pair, pairAt, pairsOf}
-use Rattle.pairs.proofs.Order.{same-or-not}
-use Rattle.pairs.proofs.Words.{pair-first, pair-second}
-use Rattle.book.specs.Book.{Bkey, Book, is, keyHead, keyEnd, keysFrom}
-use Rattle.states.specs.Distance.{snapLive, subvolUnlinked, subvolDeleted}
-use Rattle.subvolumes.specs.Subvolumes.{isLiveSnapshot, hasSubvolState, subvolState, unavailable, liveSnapshotOf, treeOfSubvolume, subvolumeFindings, subvolumeStates}
-use Rattle.walk.specs.Keys.{keyAt, gather}
-use Rattle.subvolumes.specs.Steps.{isTree, statePair, groupFindings, judged}
-use Rattle.walk.proofs.Sets.{first-true}
-use Rattle.findings.proofs.Walk.{each-same}
+use Rattle.pairs.specs.Pairs.{pair, pairAt, pairsOf, Sorted, countBelow}
+use Rattle.pairs.proofs.Order.{same-or-not, less-or-not}
+use Rattle.pairs.proofs.Bounds.{bound-before, bound-past}
+use Rattle.pairs.proofs.Words.{pair-first, pair-second, length-pairs, pairs-at, pairs-bound, in-order}
+use Rattle.walk.specs.Keys.{keyAt}
+use Rattle.subvolumes.specs.Steps.{GroupFrom, groupFindings}
+
+-- words of 64 bits
+abbrev pub Words : List ℕ → Type 0
+Words w = (k : ℕ) → getD w k 0 < 2 ^ 64
 
 -- ---- a group, pair after pair
 
-module _ (kind group id : ℕ) where
-  group-append : (xs ys : List ℕ) → groupFindings kind group id (xs ++ ys) ≡ groupFindings kind group id xs ++ groupFindings kind group id ys
+module _ (s : List ℕ) (kind group id : ℕ) where
+  pub group-append : (xs ys : List ℕ)
+      → groupFindings s kind group id (xs ++ ys) ≡ groupFindings s kind group id xs ++ groupFindings s kind group id ys
   unfolding groupFindings
   group-append xs ys =
-      let at : ℕ → ℕ → List Finding = λ _ x. when (eqb (x / 2 ^ 64) group) (finding kind (x % 2 ^ 64) id) in
+      let at : ℕ → ℕ → List Finding = λ _ x. only (eqb (x / 2 ^ 64) group) (finding kind (keyAt s (x % 2 ^ 64) .offset) id ∷ []) in
       each-append at 0 xs ys ∙ ap (λ (l : List Finding). each at 0 xs ++ l) (each-any at (λ i x. refl) (0 + length xs) ys)
 
-  group-pair : (q o : ℕ) → o < 2 ^ 64 → groupFindings kind group id (pair q o ∷ []) ≡ when (eqb q group) (finding kind o id)
+  pub group-nil : groupFindings s kind group id [] ≡ []
   unfolding groupFindings each
-  group-pair q o h = rw (pair-first q o h, pair-second q o h, append-nil)
+  group-nil = refl
 
-  pub group-start : {o : List ℕ} {m : ℕ} (w : List ℕ) → Added o m (groupFindings kind group id (pairsOf w 0)) m o
-  unfolding groupFindings pairsOf each
-  group-start w = added-nil refl
+  pub group-pair : (q p : ℕ) → p < 2 ^ 64
+      → groupFindings s kind group id (pair q p ∷ []) ≡ only (eqb q group) (finding kind (keyAt s p .offset) id ∷ [])
+  unfolding groupFindings each
+  group-pair q p h = rw (pair-first q p h, pair-second q p h, append-nil)
 
-  pub group-turn : {o o₁ o₂ : List ℕ} {m n r : ℕ} (w : List ℕ) (i : ℕ) → ((k : ℕ) → getD w k 0 < 2 ^ 64) → Added o m (groupFindings kind group id (pairsOf w i)) n o₁
-      → Added o₁ n (when (eqb (getD w (2 * i) 0) group) (finding kind (getD w (2 * i + 1) 0) id)) r o₂ → Added o m (groupFindings kind group id (pairsOf w (i + 1))) r o₂
-  unfolding pairsOf pairAt
-  group-turn w i small a b =
-      let next : groupFindings kind group id (pairsOf w (i + 1)) ≡ groupFindings kind group id (pairsOf w i) ++ when (eqb (getD w (2 * i) 0) group) (finding kind (getD w (2 * i + 1) 0) id) =
-      rw (add-one i, group-append (pairsOf w i) (pairAt w i ∷ []), group-pair (getD w (2 * i) 0) (getD w (2 * i + 1) 0) (small (2 * i + 1))) in
-      added-as (sym next) (added-more a b)
+  module _ (w : List ℕ) (fits : Words w) where
+    group-next : (i : ℕ) → groupFindings s kind group id (pairsOf w (i + 1))
+        ≡ groupFindings s kind group id (pairsOf w i)
+        ++ only (eqb (getD w (2 * i) 0) group) (finding kind (keyAt s (getD w (2 * i + 1) 0) .offset) id ∷ [])
+    unfolding pairsOf pairAt
+    group-next i = rw (
+      add-one i,
+      group-append (pairsOf w i) (pairAt w i ∷ []),
+      group-pair (getD w (2 * i) 0) (getD w (2 * i + 1) 0) (fits (2 * i + 1)),
+    )
 
-  pub group-end : {o o₁ : List ℕ} {m r : ℕ} (w : List ℕ) {i n : ℕ} → i ≤ n → n ≤ i → Added o m (groupFindings kind group id (pairsOf w i)) r o₁ → Added o m (groupFindings kind group id (pairsOf w n)) r o₁
-  group-end w h k a = rw (← le-antisymm h k) a
+    -- pairs of other groups give nothing
+    group-other : (i d : ℕ) → ((k : ℕ) → i ≤ k → k < i + d → getD w (2 * k) 0 ≡ group → ⊥)
+        → groupFindings s kind group id (pairsOf w (i + d)) ≡ groupFindings s kind group id (pairsOf w i)
+    unfolding only
+    group-other i zero h = ap (λ (k : ℕ). groupFindings s kind group id (pairsOf w k)) (omega arith)
+    group-other i (suc d) h =
+        let more : i + suc d ≡ i + d + 1 = omega arith in
+        rw (more, group-next (i + d), ne-eqb (getD w (2 * (i + d)) 0) group (h (i + d) (omega arith) (omega arith)), append-nil)
+        (group-other i d (λ k a l. h k a (omega arith)))
 
--- ---- a group, key after key
+-- ---- where a group starts and ends
 
--- ids doubled
-even-same : (w id : ℕ) → eqb (2 * w) (2 * id) ≡ eqb w id
-even-same w id = same-or-not w id
-    (λ e. eq-eqb (2 * w) (2 * id) (omega arith) ∙ sym (eq-eqb w id e))
-    (λ d. ne-eqb (2 * w) (2 * id) (λ e. d (omega arith)) ∙ sym (ne-eqb w id d))
+-- first words of sorted pairs
+words-rise : (w : List ℕ) (n : ℕ) → Words w → Sorted (pairsOf w n) → (i k : ℕ) → i ≤ k → k < n → getD w (2 * i) 0 ≤ getD w (2 * k) 0
+unfolding pairAt pair
+words-rise w n fits s i k h l = omega (arith, in-order w n s i k h l, fits (2 * i + 1), fits (2 * k + 1))
 
-odd-same : (w id : ℕ) → eqb (2 * w + 1) (2 * id + 1) ≡ eqb w id
-odd-same w id = same-or-not w id
-    (λ e. eq-eqb (2 * w + 1) (2 * id + 1) (omega arith) ∙ sym (eq-eqb w id e))
-    (λ d. ne-eqb (2 * w + 1) (2 * id + 1) (λ e. d (omega arith)) ∙ sym (ne-eqb w id d))
+module _ (w : List ℕ) (n group : ℕ) (fits : Words w) (s : Sorted (pairsOf w n)) where
+  pub bound-from : {r : ℕ} → r ≡ countBelow (pair group 0) (pairsOf w n) → GroupFrom w n group r
+  unfolding pairAt pair
+  bound-from {r} e =
+      let inside : r ≤ n = omega (arith, pairs-bound (pair group 0) w n) in
+      record {
+        inside = inside;
+        below = λ k l. omega (arith, bound-before (pair group 0) (pairsOf w n) s k (omega arith), pairs-at w n k (omega arith));
+        above = λ k h l.
+            omega (arith, bound-past (pair group 0) (pairsOf w n) s k (omega arith) (rw length-pairs l), pairs-at w n k l, fits (2 * k + 1));
+      }
 
--- which of a key's two pairs it gives
-snapshot-by : (g : List ℕ → List Finding) → g [] ≡ [] → (a l t e : Bool) (f : Finding) {x y : ℕ} → g (x ∷ []) ≡ when e f → g (y ∷ []) ≡ []
-    → g (cond (a && l) (x ∷ []) (cond t (y ∷ []) [])) ≡ when (a && (e && l)) f
-unfolding when
-snapshot-by g n true true t true f gx gy = gx
-snapshot-by g n true true t false f gx gy = gx
-snapshot-by g n true false true true f gx gy = gy
-snapshot-by g n true false true false f gx gy = gy
-snapshot-by g n true false false true f gx gy = n
-snapshot-by g n true false false false f gx gy = n
-snapshot-by g n false l true e f gx gy = gy
-snapshot-by g n false l false e f gx gy = n
+-- a pair of the group stands before its end
+pub before-end : (w : List ℕ) (n group : ℕ) {i e : ℕ} → GroupFrom w n (group + 1) e → i < n → getD w (2 * i) 0 ≡ group → i < e
+before-end w n group {i} {e} next l g = less-or-not i e (λ a. a) (λ b. absurd (omega (arith, next .above i b l)))
 
-tree-by : (g : List ℕ → List Finding) → g [] ≡ [] → (a t e : Bool) (f : Finding) {x y : ℕ} → (a ≡ true → t ≡ false) → g (x ∷ []) ≡ [] → g (y ∷ []) ≡ when e f
-    → g (cond a (x ∷ []) (cond t (y ∷ []) [])) ≡ when (t && e) f
-unfolding when
-tree-by g n true true e f d gx gy = absurd (true≢false (d refl))
-tree-by g n true false e f d gx gy = gx
-tree-by g n false true e f d gx gy = gy
-tree-by g n false false e f d gx gy = n
+-- ---- a walk over a group
 
-offset-lt : (s : List ℕ) (p : ℕ) → keyAt s p .offset < 2 ^ 64
-unfolding keyHead
-offset-lt s p = bits-lt s (8 * p + 128) 64
+-- findings that a buffer has no room for
+added-full : {o : List ℕ} {n : ℕ} {fs : List Finding} → length o / 17 ≤ n → Added o n fs (n + length fs) o
+unfolding putFrom
+added-full {o} {n} {fs} h =
+    let at = start (length o) n in
+    record {
+      count = refl;
+      buffer = sym (ap (λ (l : List ℕ). take at o ++ l) (put-full (drop at o) fs (omega (arith, length-drop at o))) ∙ take-append-drop at o);
+    }
 
--- a live snapshot is no tree record
-not-both : (k : Bkey) → isLiveSnapshot k ≡ true → isTree k ≡ false
-unfolding isLiveSnapshot isTree is
-not-both k e =
-    let nine = eqb-true (k .btree) 9 (first-true _ (eqb (k .keyType) 22) (first-true _ (leb 60 (length (k .value))) (first-true _ (eqb (leAt (k .value) 56 4) snapLive) e))) in
-    rw (ne-eqb (k .btree) 15 (λ other. absurd (omega arith)))
+-- the pairs of a group, from `from` on, gave their findings up to pair i, after m others: `found` in all, and the buffer, which was o, is o′ now
+pub record Shown (s w : List ℕ) (n kind group id from : ℕ) (o : List ℕ) (m i found : ℕ) (o′ : List ℕ) : Type 0 where
+  pub start : GroupFrom w n group from
+  pub past : from ≤ i
+  pub inside : i ≤ n
+  pub number : found + from ≡ m + i
+  pub own : (k : ℕ) → from ≤ k → k < i → getD w (2 * k) 0 ≡ group
+  pub added : Added o m (groupFindings s kind group id (pairsOf w i)) found o′
 
-when-false : (f : Finding) → when false f ≡ []
-unfolding when
-when-false f = refl
+-- they gave all, r in all, and behind them starts the next group
+abbrev Done : (s w : List ℕ) (n kind group id from : ℕ) (o : List ℕ) (m r : ℕ) (o′ : List ℕ) → Type 0
+Done s w n kind group id from o m r o′ =
+    Added o m (groupFindings s kind group id (pairsOf w n)) r o′ × ((m ≤ r) × GroupFrom w n (group + 1) (from + (r - m)))
 
-group-nil : (kind group id : ℕ) → groupFindings kind group id [] ≡ []
-unfolding groupFindings each
-group-nil kind group id = refl
+module _ {s w : List ℕ} {n kind group id from : ℕ} {o : List ℕ} {m : ℕ} (fits : Words w) where
+  pub shown-none : GroupFrom w n group from → Shown s w n kind group id from o m from m o
+  unfolding pairsOf
+  shown-none g = record {
+    start = g;
+    past = le-refl from;
+    inside = g .inside;
+    number = refl;
+    own = λ k a l. absurd (omega arith);
+    added =
+        let all : from ≡ 0 + from = omega arith in
+        let none = group-other s kind group id w fits 0 from (λ k a l e. omega (arith, g .below k (omega arith))) in
+        added-nil (ap (λ (k : ℕ). groupFindings s kind group id (pairsOf w k)) all ∙ none ∙ group-nil s kind group id);
+  }
 
-snapshot-key : (id : ℕ) (s : List ℕ) (p : ℕ) → groupFindings 30 (2 * id) id (statePair p (keyAt s p)) ≡ when (liveSnapshotOf id (keyAt s p)) (finding 30 (keyAt s p .offset) id)
-unfolding statePair isLiveSnapshot liveSnapshotOf
-snapshot-key id s p =
-    let k = keyAt s p in
-    let w = leAt (k .value) 16 4 in
-    let v = leAt (k .value) 0 4 in
-    snapshot-by (groupFindings 30 (2 * id) id) (group-nil 30 (2 * id) id) (is 9 22 k && leb 60 (length (k .value))) (eqb (leAt (k .value) 56 4) snapLive) (isTree k) (eqb w id) (finding 30 (k .offset) id)
-    (group-pair 30 (2 * id) id (2 * w) (k .offset) (offset-lt s p) ∙ ap (λ (b : Bool). when b (finding 30 (k .offset) id)) (even-same w id))
-    (group-pair 30 (2 * id) id (2 * v + 1) (k .offset) (offset-lt s p) ∙ ap (λ (b : Bool). when b (finding 30 (k .offset) id)) (ne-eqb (2 * v + 1) (2 * id) (omega arith)) ∙ when-false _)
+  module _ {i found : ℕ} {o₁ : List ℕ} (t : Shown s w n kind group id from o m i found o₁) where
+    pub shown-more : i < n → getD w (2 * i) 0 ≡ group → {x r : ℕ} {o₂ : List ℕ} → x ≡ keyAt s (getD w (2 * i + 1) 0) .offset
+        → Added o₁ found (finding kind x id ∷ []) r o₂ → Shown s w n kind group id from o m (i + 1) r o₂
+    unfolding only
+    shown-more l g e a = record {
+      start = t .start;
+      past = omega (arith, t .past);
+      inside = omega arith;
+      number = omega (arith, t .number, a .count);
+      own = λ k b h. same-or-not k i (λ same. ap (λ (j : ℕ). getD w (2 * j) 0) same ∙ g) (λ d. t .own k b (omega arith));
+      added = rw (group-next s kind group id w fits i, eq-eqb (getD w (2 * i) 0) group g, ← e) (added-more (t .added) a);
+    }
 
-tree-key : (id : ℕ) (s : List ℕ) (p : ℕ) → groupFindings 31 (2 * id + 1) id (statePair p (keyAt s p)) ≡ when (treeOfSubvolume id (keyAt s p)) (finding 31 (keyAt s p .offset) id)
-unfolding statePair isTree treeOfSubvolume
-tree-key id s p =
-    let k = keyAt s p in
-    let w = leAt (k .value) 16 4 in
-    let v = leAt (k .value) 0 4 in
-    tree-by (groupFindings 31 (2 * id + 1) id) (group-nil 31 (2 * id + 1) id) (isLiveSnapshot k) (isTree k) (eqb v id) (finding 31 (k .offset) id) (not-both k)
-    (group-pair 31 (2 * id + 1) id (2 * w) (k .offset) (offset-lt s p) ∙ ap (λ (b : Bool). when b (finding 31 (k .offset) id)) (ne-eqb (2 * w) (2 * id + 1) (omega arith)) ∙ when-false _)
-    (group-pair 31 (2 * id + 1) id (2 * v + 1) (k .offset) (offset-lt s p) ∙ ap (λ (b : Bool). when b (finding 31 (k .offset) id)) (odd-same v id))
+  -- where no finding fits any more, the buffer stays
+  shown-full : {i found : ℕ} {o₁ : List ℕ} → Shown s w n kind group id from o m i found o₁ → length o₁ / 17 ≤ found → (d : ℕ) → i + d ≤ n
+      → ((k : ℕ) → i ≤ k → k < i + d → getD w (2 * k) 0 ≡ group) → Shown s w n kind group id from o m (i + d) (found + d) o₁
+  shown-full {i} {found} t h zero l g = rw (add-zero i, add-zero found) t
+  shown-full {i} {found} t h (suc d) l g =
+      let at : i + suc d ≡ i + d + 1 = omega arith in
+      let number : found + suc d ≡ found + d + 1 = omega arith in
+      let before = shown-full t h d (omega arith) (λ k a b. g k a (omega arith)) in
+      rw (at, number) (shown-more before (omega arith) (g (i + d) (omega arith) (omega arith)) refl (added-full (omega arith)))
 
--- all keys, where each gives its own
-keys-by : (kind group id : ℕ) (of : Bkey → List Finding) (s : List ℕ) → ((p : ℕ) → groupFindings kind group id (statePair p (keyAt s p)) ≡ of (keyAt s p))
-    → (n p : ℕ) → groupFindings kind group id (gather statePair s n p) ≡ each (λ _ k. of k) 0 (keysFrom s n p)
-unfolding gather keysFrom each
-keys-by kind group id of s one zero p = group-nil kind group id
-keys-by kind group id of s one (suc n) p =
-    group-append kind group id (statePair p (keyAt s p)) (gather statePair s n (keyEnd s p))
-    ∙ ap₂ (λ (a b : List Finding). a ++ b) (one p) (keys-by kind group id of s one n (keyEnd s p) ∙ sym (each-any (λ _ k. of k) (λ i k. refl) 1 (keysFrom s n (keyEnd s p))))
+  module _ {i found : ℕ} {o₁ : List ℕ} (t : Shown s w n kind group id from o m i found o₁) where
+    -- where no pair from i on is of the group
+    shown-done : ((k : ℕ) → i ≤ k → k < n → group + 1 ≤ getD w (2 * k) 0) → Done s w n kind group id from o m found o₁
+    shown-done above =
+        let all : i + (n - i) ≡ n = omega (arith, t .inside) in
+        let place : from + (found - m) ≡ i = omega (arith, t .number, t .past) in
+        let none = group-other s kind group id w fits i (n - i) (λ k a l e. omega (arith, above k a (omega arith))) in (
+          added-as (sym none ∙ ap (λ (k : ℕ). groupFindings s kind group id (pairsOf w k)) all) (t .added),
+          (
+            omega (arith, t .number, t .past),
+            rw place (record {
+              inside = t .inside;
+              below = λ k l. less-or-not k from (λ b. omega (arith, t .start .below k b)) (λ b. omega (arith, t .own k b l));
+              above = above;
+            }),
+          ),
+        )
 
--- ---- the rule
+    -- it ends at the first pair of another group, or past the last pair
+    pub shown-end : Sorted (pairsOf w n) → i < n → (getD w (2 * i) 0 ≡ group → ⊥) → Done s w n kind group id from o m found o₁
+    shown-end sorted l d = shown-done (λ k a b. omega (arith, t .start .above i (t .past) l, words-rise w n fits sorted i k a b))
 
-pub judged-all : (b : Book) (s : List ℕ) (n p : ℕ) {xs : List ℕ} → b .keys ≡ keysFrom s n p → xs ≡ gather statePair s n p → each (λ _ k. judged xs k) 0 (b .keys) ≡ subvolumeStates b
-unfolding judged subvolumeFindings subvolumeStates
-judged-all b s n p {xs} keys pairs =
-    each-same (judged xs) (λ k. only (unavailable k) (subvolumeFindings b k))
-    (λ k. rw (
-      pairs,
-      keys-by 30 (2 * k .offset) (k .offset) (λ s. when (liveSnapshotOf (k .offset) s) (finding 30 (s .offset) (k .offset))) s (snapshot-key (k .offset) s) n p,
-      keys-by 31 (2 * k .offset + 1) (k .offset) (λ t. when (treeOfSubvolume (k .offset) t) (finding 31 (t .offset) (k .offset))) s (tree-key (k .offset) s) n p,
-      keys,
-    ))
-    0 (b .keys)
+    pub shown-all : n ≤ i → Done s w n kind group id from o m found o₁
+    shown-all h = shown-done (λ k a b. absurd (omega arith))
 
--- one subvolume
-module _ (xs : List ℕ) (k : Bkey) where
-  pub judged-no : unavailable k ≡ false → judged xs k ≡ []
-  unfolding judged only
-  judged-no e = rw e
-
-  module _ (gone : unavailable k ≡ true) {o w : ℕ} (offset : o ≡ k .offset) (state : w ≡ leAt (k .value) 40 4) where
-    pub judged-unlinked : (w ≡ subvolDeleted → ⊥) → when (eqb o 1) (finding 29 1 0) ≡ judged xs k
-    unfolding judged only subvolState
-    judged-unlinked h = rw (gone, ← state, ne-eqb w subvolDeleted h, ← offset, append-nil)
-
-    pub judged-deleted : w ≡ subvolDeleted → when (eqb o 1) (finding 29 1 0) ++ (groupFindings 30 (2 * o) o xs ++ groupFindings 31 (2 * o + 1) o xs) ≡ judged xs k
-    unfolding judged only subvolState
-    judged-deleted h = rw (gone, ← state, eq-eqb w subvolDeleted h, ← offset)
-
-second-true : (a b : Bool) → a && b ≡ true → b ≡ true
-second-true true b e = e
-second-true false b e = absurd (true≢false (sym e))
-
--- an unavailable subvolume has its state word and an id of 32 bits
-pub gone-long : (k : Bkey) → unavailable k ≡ true → 44 ≤ length (k .value)
-unfolding unavailable hasSubvolState
-gone-long k e =
-    leb-true 44 (length (k .value)) (second-true (is 8 21 k) _ (first-true (is 8 21 k && leb 44 (length (k .value))) ((eqb (subvolState k) subvolUnlinked || eqb (subvolState k) subvolDeleted) && leb (k .offset) 4294967295) e))
-
-pub gone-small : (k : Bkey) → unavailable k ≡ true → k .offset ≤ 4294967295
-unfolding unavailable
-gone-small k e =
-    leb-true (k .offset) 4294967295 (second-true (eqb (subvolState k) subvolUnlinked || eqb (subvolState k) subvolDeleted) _ (second-true (hasSubvolState k) _ e))
+  -- the rest of the group is counted, where no finding fits any more
+  pub shown-rest : {i found e : ℕ} {o₁ : List ℕ} → Shown s w n kind group id from o m i found o₁ → i < n → getD w (2 * i) 0 ≡ group
+      → length o₁ / 17 ≤ found → GroupFrom w n (group + 1) e → Done s w n kind group id from o m (found + (e - i)) o₁
+  shown-rest {i} {found} {e} t l g h next =
+      let past = before-end w n group next l g in
+      let own : (k : ℕ) → i ≤ k → k < i + (e - i) → getD w (2 * k) 0 ≡ group = λ k a b.
+      omega (arith, next .below k (omega arith), t .start .above k (omega (arith, t .past)) (omega (arith, next .inside))) in
+      shown-done (shown-full t h (e - i) (omega (arith, next .inside)) own) (λ k a b. next .above k (omega arith) b)

@@ -1,4 +1,5 @@
 mod Claims
 mod Counts
 mod Groups
+mod Members
 mod States

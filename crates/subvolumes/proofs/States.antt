@@ -7,26 +7,41 @@ use native.Mathlib.Omega.{arith}
 use lib.ListN.{length}
 use lib.Dec.{eqb, leb}
 use Rattle.bits.specs.Bits.{leAt}
+use Rattle.pairs.specs.Pairs.{pair}
 use Rattle.book.specs.declared.KeyFront.{KeyFront}
-use Rattle.book.specs.Book.{is, keyEnd, keysFrom}
+use Rattle.book.specs.Book.{Bkey, is, keyEnd, keysFrom}
 use Rattle.book.specs.Walk.{KeysFit}
 use Rattle.book.proofs.Walk.{step, no-keys}
 use Rattle.states.specs.Distance.{snapLive, subvolUnlinked, subvolDeleted}
 use Rattle.subvolumes.specs.Subvolumes.{isLiveSnapshot, hasSubvolState, subvolState, unavailable, isUnavailable}
-use Rattle.walk.specs.Keys.{keyAt, AtKey}
-use Rattle.subvolumes.specs.Steps.{isTree, groupPair, statePair}
+use Rattle.walk.specs.Keys.{keyAt, AtKey, anyKey}
+use Rattle.subvolumes.specs.Steps.{isTree, inGroup, groupOf, statePair, isDeleted}
 use Rattle.walk.proofs.Gather.{at-length, at-long, long-enough}
 use Rattle.walk.proofs.Sets.{first-true}
 
 module _ {s : List ℕ} {p : ℕ} {f : KeyFront} (k : AtKey s p f) where
   pub gone-yes : (eqb (f .btree) 8 && eqb (f .«key_type») 21) && leb 44 (f .len) ≡ true → {w o : ℕ} → w ≡ leAt (keyAt s p .value) 40 4 → o ≡ keyAt s p .offset
-      → (eqb w subvolUnlinked || eqb w subvolDeleted) && leb o 4294967295 ≡ unavailable (keyAt s p)
+      → eqb w subvolUnlinked || eqb w subvolDeleted ≡ true → leb o 4294967295 ≡ unavailable (keyAt s p)
   unfolding unavailable hasSubvolState subvolState
-  gone-yes e w o = rw (at-long k 8 21 44 e, w, o)
+  gone-yes e w o t = rw (at-long k 8 21 44 e, ← w, t, o)
+
+  pub gone-other : (eqb (f .btree) 8 && eqb (f .«key_type») 21) && leb 44 (f .len) ≡ true → {w : ℕ} → w ≡ leAt (keyAt s p .value) 40 4
+      → eqb w subvolUnlinked || eqb w subvolDeleted ≡ false → false ≡ unavailable (keyAt s p)
+  unfolding unavailable hasSubvolState subvolState
+  gone-other e w t = rw (at-long k 8 21 44 e, ← w, t)
 
   pub gone-no : (eqb (f .btree) 8 && eqb (f .«key_type») 21) && leb 44 (f .len) ≡ false → false ≡ unavailable (keyAt s p)
   unfolding unavailable hasSubvolState
   gone-no e = rw (at-long k 8 21 44 e)
+
+  pub deleted-yes : (eqb (f .btree) 8 && eqb (f .«key_type») 21) && leb 44 (f .len) ≡ true → {w : ℕ} → w ≡ leAt (keyAt s p .value) 40 4
+      → eqb w subvolDeleted ≡ isDeleted (keyAt s p)
+  unfolding isDeleted hasSubvolState subvolState
+  deleted-yes e w = rw (at-long k 8 21 44 e, w)
+
+  pub deleted-no : (eqb (f .btree) 8 && eqb (f .«key_type») 21) && leb 44 (f .len) ≡ false → false ≡ isDeleted (keyAt s p)
+  unfolding isDeleted hasSubvolState
+  deleted-no e = rw (at-long k 8 21 44 e)
 
   pub live-yes : (eqb (f .btree) 9 && eqb (f .«key_type») 22) && leb 60 (f .len) ≡ true → {w : ℕ} → w ≡ leAt (keyAt s p .value) 56 4 → eqb w snapLive ≡ isLiveSnapshot (keyAt s p)
   unfolding isLiveSnapshot
@@ -45,17 +60,17 @@ module _ {s : List ℕ} {p : ℕ} {f : KeyFront} (k : AtKey s p f) where
       omega (arith, at-length k, long-enough (is 9 22 key) 60 (length (key .value)) test)
 
   -- the pair that a key gives
-  pub state-snapshot : isLiveSnapshot (keyAt s p) ≡ true → {w : ℕ} → w ≡ leAt (keyAt s p .value) 16 4 → groupPair (2 * w) (keyAt s p) ∷ [] ≡ statePair p (keyAt s p)
-  unfolding statePair
+  pub state-snapshot : isLiveSnapshot (keyAt s p) ≡ true → {w : ℕ} → w ≡ leAt (keyAt s p .value) 16 4 → pair (2 * w) p ∷ [] ≡ statePair p (keyAt s p)
+  unfolding statePair inGroup groupOf
   state-snapshot e w = rw (e, w)
 
   pub state-tree : isLiveSnapshot (keyAt s p) ≡ false → (eqb (f .btree) 15 && eqb (f .«key_type») 31) && leb 8 (f .len) ≡ true → {w : ℕ} → w ≡ leAt (keyAt s p .value) 0 4
-      → groupPair (2 * w + 1) (keyAt s p) ∷ [] ≡ statePair p (keyAt s p)
-  unfolding statePair isTree
+      → pair (2 * w + 1) p ∷ [] ≡ statePair p (keyAt s p)
+  unfolding statePair inGroup groupOf isTree
   state-tree e t w = rw (e, at-long k 15 31 8 t, w)
 
   pub state-none : isLiveSnapshot (keyAt s p) ≡ false → (eqb (f .btree) 15 && eqb (f .«key_type») 31) && leb 8 (f .len) ≡ false → statePair p (keyAt s p) ≡ []
-  unfolding statePair isTree
+  unfolding statePair inGroup isTree
   state-none e t = rw (e, at-long k 15 31 8 t)
 
 -- ---- the set of unavailable subvolumes
@@ -78,3 +93,18 @@ module _ (id : ℕ) (s : List ℕ) (n p : ℕ) (left : 0 < n) (fit : KeysFit s n
 pub gone-end : (id : ℕ) (s : List ℕ) (n p : ℕ) → n ≡ 0 → isUnavailable id (keysFrom s n p) ≡ false
 unfolding isUnavailable
 gone-end id s n p e = rw (no-keys s p {n = n} e)
+
+-- ---- whether some key passes a test
+
+module _ (test : Bkey → Bool) (s : List ℕ) (n p : ℕ) (left : 0 < n) (fit : KeysFit s n p) {b : Bool} (passes : b ≡ test (keyAt s p)) where
+  pub any-here : b ≡ true → anyKey test (keysFrom s n p) ≡ true
+  unfolding anyKey
+  any-here e = rw (step s n p left fit .keys, ← passes, e)
+
+  pub any-next : {q : ℕ} → b ≡ false → q ≡ keyEnd s p → anyKey test (keysFrom s n p) ≡ anyKey test (keysFrom s (n - 1) q)
+  unfolding anyKey
+  any-next e q = rw (step s n p left fit .keys, ← passes, e, q)
+
+pub any-end : (test : Bkey → Bool) (s : List ℕ) (n p : ℕ) → n ≡ 0 → anyKey test (keysFrom s n p) ≡ false
+unfolding anyKey
+any-end test s n p e = rw (no-keys s p {n = n} e)

@@ -2,14 +2,14 @@
 ghost use mathlib.Core.Path.{_≡_};
 ghost use mathlib.Core.List.{[], _∷_, _++_};
 ghost use mathlib.Core.Bool.{_&&_};
-ghost use Prim.Native.Nat.{_+_, _*_, _^_, _<_, _≤_};
+ghost use Prim.Native.Nat.{_+_, _-_, _*_, _^_, _<_, _≤_};
 ghost use lib.ListN.{length};
 ghost use lib.Dec.{eqb};
 ghost use Rattle.findings.specs.Findings.{each, Found, Added};
 ghost use Rattle.pairs.specs.Pairs.{pairsOf, Sorted};
 ghost use Rattle.book.specs.Book.{bookOf};
 ghost use Rattle.book.specs.Walk.{Opened};
-ghost use Rattle.walk.specs.Keys.{keyAt, AtKey, gather};
+ghost use Rattle.walk.specs.Keys.{keyAt, AtKey, gather, anyKey};
 ghost use Rattle.subvolumes.specs.Subvolumes.{
   isLiveSnapshot,
   unavailable,
@@ -23,14 +23,17 @@ ghost use Rattle.subvolumes.specs.Steps.{
   claimPair,
   firsts,
   RunEnd,
-  groupPair,
   statePair,
+  Grouped,
+  GroupFrom,
   groupFindings,
   judged,
+  isDeleted,
 };
 use book::Header;
 use book::KeyFront;
 use book::Places;
+use findings::emit;
 use findings::emit_if;
 
 // Where the state words of values stand.
@@ -153,8 +156,9 @@ fn is_gone(book: &[u8], p: usize, f: KeyFront) -> bool
 {
     if ((f.btree == 8) & (f.key_type == 21)) & (44 <= f.len) {
         let state = walk::key_word(book, p, f, SUBVOL_STATE);
-        let offset = walk::key_offset(book, p, f);
-        return ((state == SUBVOL_UNLINKED) | (state == SUBVOL_DELETED)) & (offset <= 0xffff_ffff);
+        if (state == SUBVOL_UNLINKED) | (state == SUBVOL_DELETED) {
+            return walk::key_offset(book, p, f) <= 0xffff_ffff;
+        }
     }
     false
 }
@@ -200,15 +204,6 @@ pub fn is_live_snapshot(book: &[u8], p: usize, f: KeyFront) -> bool
     false
 }
 
-// Puts the pair of the key at byte p in a group behind the first n.
-fn put_in_group(book: &[u8], p: usize, f: KeyFront, group: u64, work: &mut [u64], n: usize)
-    requires { ⌜ AtKey (now book) p f × (2 * n + 2 ≤ length (now work)) ⌝ }
-    ensures { λ _. ⌜ pairsOf (now (work .exit)) (n + 1) ≡ pairsOf (now (work .entry)) n ++ (groupPair group (keyAt (now (book .entry)) p) ∷ []) ⌝ }
-{
-    let offset = walk::key_offset(book, p, f);
-    pairs::put_pair(work, n, group, offset);
-}
-
 // Puts the pair that the key at byte p gives behind the first n, and returns their number with it.
 fn put_state(book: &[u8], p: usize, f: KeyFront, work: &mut [u64], n: usize) -> usize
     requires { ⌜ AtKey (now book) p f × (2 * n + 2 ≤ length (now work)) ⌝ }
@@ -217,12 +212,12 @@ fn put_state(book: &[u8], p: usize, f: KeyFront, work: &mut [u64], n: usize) -> 
 {
     if is_live_snapshot(book, p, f) {
         let id = walk::key_word(book, p, f, 16) as u64;
-        put_in_group(book, p, f, 2 * id, work, n);
+        pairs::put_pair(work, n, 2 * id, p as u64);
         return n + 1;
     }
     if ((f.btree == 15) & (f.key_type == 31)) & (8 <= f.len) {
         let id = walk::key_word(book, p, f, 0) as u64;
-        put_in_group(book, p, f, 2 * id + 1, work, n);
+        pairs::put_pair(work, n, 2 * id + 1, p as u64);
         return n + 1;
     }
     n
@@ -246,41 +241,61 @@ fn put_states(book: &[u8], h: Header, at: Places, work: &mut [u64]) -> usize
     n
 }
 
-// The findings of a kind for each key of a group among the first n pairs, with id as object; m were found before.
+// The offset of the key whose head stands at byte p.
+fn offset_at(book: &[u8], p: usize) -> u64
+    requires { ⌜ p + 28 ≤ length (now book) ⌝ }
+    ensures { λ r. ⌜ r ≡ keyAt (now (book .entry)) p .offset ⌝ }
+{
+    bits::be64(book, p + 16)
+}
+
+// The findings of a kind for each key of a group, whose pairs start at `from` among the first n, with id as object; m were found before.
+// Those that the buffer has no room for are counted without a look at each.
 fn show_group(
+    book: &[u8],
     work: &[u64],
     n: usize,
+    from: usize,
     group: u64,
     kind: u8,
     id: u64,
     out: &mut [u8],
     m: usize,
 ) -> usize
-    requires { ⌜ (2 * n ≤ length (now work)) × (n < 2 ^ 32) × (m < 2 ^ 61) ⌝ }
-    ensures added { λ r. ⌜ Added (now (out .entry)) m (groupFindings kind group id (pairsOf (now (work .entry)) n)) r (now (out .exit)) ⌝ }
-    ensures few { λ r. ⌜ r ≤ m + n ⌝ }
+    requires { ⌜ Grouped (now book) (now work) n × GroupFrom (now work) n group from × (n < 2 ^ 32) × (group < 2 ^ 34) × (m < 2 ^ 61) ⌝ }
+    ensures added { λ r. ⌜ Added (now (out .entry)) m (groupFindings (now (book .entry)) kind group id (pairsOf (now (work .entry)) n)) r (now (out .exit)) ⌝ }
+    ensures ends { λ r. ⌜ (m ≤ r) × GroupFrom (now (work .entry)) n (group + 1) (from + (r - m)) ⌝ }
 {
+    let room = out.len() / 17;
     let mut found = m;
-    let mut i: usize = 0;
+    let mut i = from;
     while i < n {
         let q = 2 * i;
-        let first = work[q];
-        let second = work[q + 1];
-        found = emit_if(out, found, first == group, kind, second, id);
+        if work[q] != group {
+            return found;
+        }
+        if room <= found {
+            return found + (pairs::lower_bound(work, n, group + 1, 0) - i);
+        }
+        let place = work[q + 1] as usize;
+        let offset = offset_at(book, place);
+        found = emit(out, found, kind, offset, id);
         i += 1;
     }
     found
 }
 
-// The findings of a deleted subvolume's snapshots and tree records among the first n pairs.
-fn show_deleted(work: &[u64], n: usize, id: u64, out: &mut [u8], m: usize) -> usize
-    requires { ⌜ (2 * n ≤ length (now work)) × (n < 2 ^ 32) × (id < 2 ^ 32) × (m < 2 ^ 60) ⌝ }
-    ensures added { λ r. ⌜ Added (now (out .entry)) m (groupFindings 30 (2 * id) id (pairsOf (now (work .entry)) n) ++ groupFindings 31 (2 * id + 1) id (pairsOf (now (work .entry)) n)) r (now (out .exit)) ⌝ }
+// The findings of a deleted subvolume's snapshots and tree records among the first n pairs: the records' group follows that of the snapshots.
+fn show_deleted(book: &[u8], work: &[u64], n: usize, id: u64, out: &mut [u8], m: usize) -> usize
+    requires { ⌜ Grouped (now book) (now work) n × (n < 2 ^ 32) × (id < 2 ^ 32) × (m < 2 ^ 60) ⌝ }
+    ensures added { λ r. ⌜ Added (now (out .entry)) m (groupFindings (now (book .entry)) 30 (2 * id) id (pairsOf (now (work .entry)) n) ++ groupFindings (now (book .entry)) 31 (2 * id + 1) id (pairsOf (now (work .entry)) n)) r (now (out .exit)) ⌝ }
     ensures few { λ r. ⌜ r ≤ m + n + n ⌝ }
 {
     let group = 2 * id;
-    let found = show_group(work, n, group, 30, id, out, m);
-    show_group(work, n, group + 1, 31, id, out, found)
+    let from = pairs::lower_bound(work, n, group, 0);
+    let found = show_group(book, work, n, from, group, 30, id, out, m);
+    let next = from + (found - m);
+    show_group(book, work, n, next, group + 1, 31, id, out, found)
 }
 
 // The findings of the key at byte p, if it is an unavailable subvolume, by the first n pairs of states.
@@ -293,8 +308,8 @@ fn show_subvolume(
     out: &mut [u8],
     m: usize,
 ) -> usize
-    requires { ⌜ AtKey (now book) p f × (2 * n ≤ length (now work)) × (n < 2 ^ 32) × (m < 2 ^ 59) ⌝ }
-    ensures added { λ r. ⌜ Added (now (out .entry)) m (judged (pairsOf (now (work .entry)) n) (keyAt (now (book .entry)) p)) r (now (out .exit)) ⌝ }
+    requires { ⌜ AtKey (now book) p f × Grouped (now book) (now work) n × (n < 2 ^ 32) × (m < 2 ^ 59) ⌝ }
+    ensures added { λ r. ⌜ Added (now (out .entry)) m (judged (now (book .entry)) (pairsOf (now (work .entry)) n) (keyAt (now (book .entry)) p)) r (now (out .exit)) ⌝ }
     ensures few { λ r. ⌜ r ≤ m + 1 + n + n ⌝ }
 {
     if is_gone(book, p, f) {
@@ -302,7 +317,7 @@ fn show_subvolume(
         let state = walk::key_word(book, p, f, SUBVOL_STATE);
         let found = emit_if(out, m, id == 1, 29, 1, 0);
         if state == SUBVOL_DELETED {
-            return show_deleted(work, n, id, out, found);
+            return show_deleted(book, work, n, id, out, found);
         }
         return found;
     }
@@ -318,8 +333,8 @@ fn show_subvolumes(
     n: usize,
     out: &mut [u8],
 ) -> usize
-    requires { ⌜ Opened (now book) h at × (2 * n ≤ length (now work)) × (n ≤ h .keys) ⌝ }
-    ensures found { λ r. ⌜ Found (now (out .entry)) (each (λ _ k. judged (pairsOf (now (work .entry)) n) k) 0 (bookOf (now (book .entry)) .keys)) r (now (out .exit)) ⌝ }
+    requires { ⌜ Opened (now book) h at × Grouped (now book) (now work) n × (n ≤ h .keys) ⌝ }
+    ensures found { λ r. ⌜ Found (now (out .entry)) (each (λ _ k. judged (now (book .entry)) (pairsOf (now (work .entry)) n) k) 0 (bookOf (now (book .entry)) .keys)) r (now (out .exit)) ⌝ }
     ensures few { λ r. ⌜ r ≤ h .keys * 74899 ⌝ }
 {
     let mut found: usize = 0;
@@ -334,6 +349,50 @@ fn show_subvolumes(
     found
 }
 
+// Whether the key at byte p is a deleted subvolume.
+fn is_deleted(book: &[u8], p: usize, f: KeyFront) -> bool
+    requires { ⌜ AtKey (now book) p f ⌝ }
+    ensures { λ r. ⌜ r ≡ isDeleted (keyAt (now (book .entry)) p) ⌝ }
+{
+    if ((f.btree == 8) & (f.key_type == 21)) & (44 <= f.len) {
+        return walk::key_word(book, p, f, SUBVOL_STATE) == SUBVOL_DELETED;
+    }
+    false
+}
+
+// Whether some key is a deleted subvolume.
+fn has_deleted(book: &[u8], h: Header, at: Places) -> bool
+    requires { ⌜ Opened (now book) h at ⌝ }
+    ensures { λ r. ⌜ r ≡ anyKey isDeleted (bookOf (now (book .entry)) .keys) ⌝ }
+{
+    let mut left = h.keys;
+    let mut p = at.keys;
+    while 0 < left {
+        let f = book::key_front(book, p);
+        if is_deleted(book, p, f) {
+            return true;
+        }
+        p = p + 28 + f.len;
+        left -= 1;
+    }
+    false
+}
+
+// Puts the pairs of states that the rule needs, sorted, and returns their number: none where no subvolume is deleted.
+fn sort_states(book: &[u8], h: Header, at: Places, work: &mut [u64]) -> usize
+    requires { ⌜ Opened (now book) h at × (2 * h .keys ≤ length (now work)) ⌝ }
+    ensures put { λ r. ⌜ each (λ _ k. judged (now (book .entry)) (pairsOf (now (work .exit)) r) k) 0 (bookOf (now (book .entry)) .keys) ≡ subvolumeStates (bookOf (now (book .entry))) ⌝ }
+    ensures grouped { λ r. ⌜ Grouped (now (book .entry)) (now (work .exit)) r ⌝ }
+    ensures few { λ r. ⌜ r ≤ h .keys ⌝ }
+{
+    if has_deleted(book, h, at) {
+        let n = put_states(book, h, at, work);
+        pairs::sort_pairs(work, n);
+        return n;
+    }
+    0
+}
+
 // The findings of unlinked and deleted subvolumes, and of live snapshots and tree records of deleted ones.
 pub fn subvolume_states(
     book: &[u8],
@@ -346,6 +405,6 @@ pub fn subvolume_states(
     ensures found { λ r. ⌜ Found (now (out .entry)) (subvolumeStates (bookOf (now (book .entry)))) r (now (out .exit)) ⌝ }
     ensures few { λ r. ⌜ r ≤ h .keys * 74899 ⌝ }
 {
-    let n = put_states(book, h, at, work);
+    let n = sort_states(book, h, at, work);
     show_subvolumes(book, h, at, work, n, out)
 }

@@ -14,13 +14,13 @@ returns : tie.Need-returns
 returns c =
     let a = c .before .before .before .before .before .before .before .before .before .args in
     let yes = state-snapshot (c .before .before .before .before .before .before .before .before .before .pre .0) (sym (c .before .before .before .before .before .before .is-live-snapshot .ensures) ∙ c .before .before .before .before .before .if1 .taken) (c .before .before .before .before .key-word .ensures) in
-    (c .before .before .put-in-group .ensures ∙ ap (λ (l : List ℕ). pairsOf (a .work .now) (a .n) ++ l) yes, omega arith)
+    (c .before .before .put-pair .ensures .0 ∙ ap (λ (l : List ℕ). pairsOf (a .work .now) (a .n) ++ l) yes, omega arith)
 
 returns-2 : tie.Need-returns-2
 returns-2 c =
     let a = c .before .before .before .before .before .before .before .before .before .before .before .before .before .args in
     let yes = state-tree (c .before .before .before .before .before .before .before .before .before .before .before .before .before .pre .0) (sym (c .before .before .before .before .before .before .before .before .before .before .is-live-snapshot .ensures) ∙ c .before .before .before .before .before .before .before .before .before .if1 .left) (c .before .before .before .before .before .if2 .taken) (c .before .before .before .before .key-word2 .ensures) in
-    (c .before .before .put-in-group2 .ensures ∙ ap (λ (l : List ℕ). pairsOf (a .work .now) (a .n) ++ l) yes, omega arith)
+    (c .before .before .put-pair2 .ensures .0 ∙ ap (λ (l : List ℕ). pairsOf (a .work .now) (a .n) ++ l) yes, omega arith)
 
 returns-3 : tie.Need-returns-3
 returns-3 c =
@@ -36,7 +36,7 @@ put-state-spec =
     (λ c κs. (c .before .before .before .before .pre .0, omega (arith, live-long (c .before .before .before .before .pre .0) (sym (c .before .is-live-snapshot .ensures) ∙ c .if1 .taken))))
     (λ c. search needs)
     (λ c. search needs)
-    (λ c κs. (c .before .before .before .before .before .before .pre .0, omega arith))
+    (λ c κs. search needs)
     (λ c. search needs)
     (λ c. search needs)
     returns
@@ -44,7 +44,7 @@ put-state-spec =
     (λ c. search needs)
     (λ c. search needs)
     (λ c. search needs)
-    (λ c κs. (c .before .before .before .before .before .before .before .before .before .before .pre .0, omega arith))
+    (λ c κs. search needs)
     (λ c. search needs)
     (λ c. search needs)
     returns-2

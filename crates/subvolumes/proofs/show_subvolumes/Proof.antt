@@ -14,7 +14,7 @@ use Rattle.subvolumes.proofs.show_subvolumes.Statement.{statement}
 use Rattle.subvolumes.proofs.show_subvolumes.Tie as tie
 
 abbrev Inv-loop : tie.InvT-loop
-Inv-loop book work n out₀ found₀ left₀ p₀ out found left p = KeysFit book left p × (found + left * 74899 ≤ left₀ * 74899) × Begun (each (λ _ k. judged (pairsOf work n) k) 0 (keysFrom book left₀ p₀)) out₀ (each (λ _ k. judged (pairsOf work n) k) 0 (keysFrom book left p)) found out
+Inv-loop book work n out₀ found₀ left₀ p₀ out found left p = KeysFit book left p × (found + left * 74899 ≤ left₀ * 74899) × Begun (each (λ _ k. judged book (pairsOf work n) k) 0 (keysFrom book left₀ p₀)) out₀ (each (λ _ k. judged book (pairsOf work n) k) 0 (keysFrom book left p)) found out
 
 abbrev μ-loop : tie.MeasureT-loop
 μ-loop book work n out₀ found₀ left₀ p₀ out found left p = left
@@ -29,12 +29,12 @@ loop-again c =
     let ends = at-end (at-key (parts (c .before .before .before .before .before .before .before .before .before .before .before .pre .0) .small) (c .before .before .before .before .before .before .loop-test .taken) (c .before .before .before .before .before .before .before .loop .inv .0) (c .before .before .before .before .before .key-front .ensures)) in (
       rw ends (step s left p some fit .rest),
       omega (arith, c .before .before .before .before .before .before .before .loop .inv .1, c .before .before .before .show-subvolume .ensures .1, c .before .before .before .before .before .before .before .before .before .before .before, few-keys (c .before .before .before .before .before .before .before .before .before .before .before .pre .0), some),
-      turn (c .before .before .before .before .before .before .before .loop .inv .2) (c .before .before .before .show-subvolume .ensures .0) (key-next (judged (pairsOf (c .before .before .before .before .before .before .before .before .before .before .before .args .work .now) (c .before .before .before .before .before .before .before .before .before .before .before .args .n))) s left p some fit ends),
+      turn (c .before .before .before .before .before .before .before .loop .inv .2) (c .before .before .before .show-subvolume .ensures .0) (key-next (judged s (pairsOf (c .before .before .before .before .before .before .before .before .before .before .before .args .work .now) (c .before .before .before .before .before .before .before .before .before .before .before .args .n))) s left p some fit ends),
     )
 
 returns : tie.Need-returns Inv-loop μ-loop
 returns c =
-    let done = each-none (λ _ k. judged (pairsOf (c .before .before .before .before .before .args .work .now) (c .before .before .before .before .before .args .n)) k) 0 (no-keys (c .before .before .before .before .before .args .book .now) (c .before .loop .p) {n = c .before .loop .left} (omega arith)) in
+    let done = each-none (λ _ k. judged (c .before .before .before .before .before .args .book .now) (pairsOf (c .before .before .before .before .before .args .work .now) (c .before .before .before .before .before .args .n)) k) 0 (no-keys (c .before .before .before .before .before .args .book .now) (c .before .loop .p) {n = c .before .loop .left} (omega arith)) in
     (rw (parts (c .before .before .before .before .before .pre .0) .keys) (last (c .before .loop .inv .2) done), omega arith)
 
 pub show-subvolumes-spec : {M : Type 1} → statement M
