@@ -1,5 +1,6 @@
 // What bytes are a book: its header, its four tables and its keys, read where they stand.
 ghost use mathlib.Core.Path.{_≡_};
+ghost use mathlib.Core.Bool.{true};
 ghost use Prim.Native.Nat.{_+_, _*_, _^_, _<_, _≤_};
 ghost use lib.ListN.{length};
 ghost use Rattle.book.specs.Maps.{lookup, lowerBound};
@@ -27,7 +28,7 @@ ghost use Rattle.book.specs.Refusals.{
   scanOf,
 };
 ghost use Rattle.book.specs.Walk.{firstAt, Rising, frontOf, maybeU8, maybeU32, allocEntryOf};
-ghost use Rattle.book.specs.Steps.{Readable, Near, keyReadOf};
+ghost use Rattle.book.specs.Steps.{Readable, FirstBefore, Near, entryReadOf, keyReadOf};
 ghost use Rattle.search.specs.Bound.{LowerBound};
 use bits::Cursor;
 
@@ -111,6 +112,14 @@ pub enum MaybeU32 {
 // What a check of a book, or of a part of it, gives.
 pub enum Verdict {
     Passed,
+    // the refusal's number and its place
+    Refused(usize, usize),
+}
+
+// What stands where an entry of a table is due.
+pub enum EntryRead {
+    // the entry's first field
+    First(u64),
     // the refusal's number and its place
     Refused(usize, usize),
 }
@@ -217,34 +226,58 @@ fn read_entry(book: &[u8], t: Table, at: usize) -> Entry
     }
 }
 
-// Whether the rest of an entry is one that its table may not hold.
-fn bad_rest(typed: bool, rest: u64) -> bool
-    ensures { λ r. ⌜ r ≡ badRest typed rest ⌝ }
+// The first field of the entry of a table at byte `at`.
+fn read_first(book: &[u8], t: Table, at: usize) -> u64
+    requires { ⌜ Readable t × (at + t .size ≤ length (now book)) ⌝ }
+    ensures { λ r. ⌜ r ≡ entryAt t (now (book .entry)) at .first ⌝ }
 {
-    typed & ((rest % 128 != 0) | ((rest / 32768 == 0) & (rest / 128 % 256 != 0)))
+    if t.first == 32 {
+        return bits::be32(book, at) as u64;
+    }
+    bits::be64(book, at)
 }
 
-// What the entry at byte `at` gives, in a table that starts at byte `start`.
-fn entry_verdict(book: &[u8], t: Table, start: usize, at: usize) -> Verdict
+// Whether the rest of an alloc entry has a spare bit set, or a data type without has-type.
+fn bad_rest(rest: u64) -> bool
+    ensures { λ r. ⌜ r ≡ badRest true rest ⌝ }
+{
+    (rest % 128 != 0) | ((rest / 32768 == 0) & (rest / 128 % 256 != 0))
+}
+
+// Whether the rest of the entry at byte `at` is one that its table may not hold: only an alloc table has such.
+fn bad_entry(book: &[u8], t: Table, at: usize) -> bool
+    requires { ⌜ Readable t × (length (now book) ≤ 1048576) × (at + t .size ≤ length (now book)) ⌝ }
+    ensures { λ r. ⌜ r ≡ badRest (t .typed) (entryAt t (now (book .entry)) at .rest) ⌝ }
+{
+    if !t.typed {
+        return false;
+    }
+    let c = Cursor { at: 8 * at + 64 };
+    let rest = c.take(book, 16);
+    bad_rest(rest.value)
+}
+
+// What stands at byte `at`, where an entry is due, in a table that starts at byte `start`; the entry before, if there is one, has the first
+// field `previous`.
+fn check_entry(book: &[u8], t: Table, start: usize, at: usize, previous: u64) -> EntryRead
     requires { ⌜ Readable t × (length (now book) ≤ 1048576) × (start < 2 ^ 32) × (at < 2 ^ 32) ⌝ }
-    ensures { λ r. ⌜ r ≡ entryVerdict t (now (book .entry)) start at ⌝ }
+    requires { ⌜ FirstBefore t (now book) start at previous ⌝ }
+    ensures { λ r. ⌜ r ≡ entryReadOf (entryVerdict t (now (book .entry)) start at) (entryAt t (now (book .entry)) at .first) ⌝ }
 {
     if book.len() < at + t.size {
-        return Verdict::Refused(4, at);
+        return EntryRead::Refused(4, at);
     }
-    let e = read_entry(book, t, at);
-    if bad_rest(t.typed, e.rest) {
-        return Verdict::Refused(5, at);
+    if bad_entry(book, t, at) {
+        return EntryRead::Refused(5, at);
     }
+    let first = read_first(book, t, at);
     if at < start + t.size {
-        return Verdict::Passed;
+        return EntryRead::First(first);
     }
-    let previous = at - t.size;
-    let before = read_entry(book, t, previous);
-    if e.first <= before.first {
-        return Verdict::Refused(6, at);
+    if first <= previous {
+        return EntryRead::Refused(6, at);
     }
-    Verdict::Passed
+    EntryRead::First(first)
 }
 
 // The first refusal of the `count` entries of the table that starts at byte `start`.
@@ -254,11 +287,17 @@ fn table_verdict(book: &[u8], t: Table, start: usize, count: u16) -> Verdict
 {
     let mut left = count;
     let mut at = start;
+    let mut previous = 0;
     while 0 < left {
-        let v = entry_verdict(book, t, start, at);
-        let Verdict::Passed = v else {
-            return v;
-        };
+        let e = check_entry(book, t, start, at, previous);
+        match e {
+            EntryRead::Refused(number, place) => {
+                return Verdict::Refused(number, place);
+            }
+            EntryRead::First(first) => {
+                previous = first;
+            }
+        }
         at += t.size;
         left -= 1;
     }
