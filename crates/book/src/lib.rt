@@ -29,7 +29,7 @@ ghost use Rattle.book.specs.Refusals.{
 };
 ghost use Rattle.book.specs.Walk.{firstAt, Rising, frontOf, maybeU8, maybeU32, allocEntryOf};
 ghost use Rattle.book.specs.Steps.{Readable, FirstBefore, Near, entryReadOf, keyReadOf};
-ghost use Rattle.search.specs.Bound.{LowerBound};
+ghost use Rattle.search.specs.Bound.{LowerBound, Bracket};
 use bits::Cursor;
 
 // The first 32 bytes, field by field. The mark `trees` says that the snapshot_trees btree is present.
@@ -107,6 +107,18 @@ pub enum MaybeU8 {
 pub enum MaybeU32 {
     Is(u32),
     Absent,
+}
+
+// What a search from a place on finds: the place where it ended, and the word.
+pub struct WordAt {
+    pub at: usize,
+    pub word: MaybeU32,
+}
+
+// Entries of a table: those from `low` on, before `high`.
+pub struct Window {
+    pub low: usize,
+    pub high: usize,
 }
 
 // What a check of a book, or of a part of it, gives.
@@ -469,13 +481,15 @@ pub fn scan(book: &[u8]) -> Scanned
     }
 }
 
-// How many of the `count` entries of two 32-bit words from byte `start` on, whose first words rise, have one below `x`.
-fn lower_bound32(book: &[u8], start: usize, count: usize, x: u32) -> usize
+// The place of `x` among the `count` entries of two 32-bit words from byte `start` on, whose first words rise: how many of these are below it.
+// It is in the window `w`.
+fn bound_within(book: &[u8], start: usize, count: usize, w: Window, x: u32) -> usize
     requires { ⌜ Rising wordsTable (now book) start count ⌝ }
+    requires { ⌜ Bracket (firstAt wordsTable (now book) start) count x (w .low) (w .high) ⌝ }
     ensures { λ r. ⌜ LowerBound (firstAt wordsTable (now (book .entry)) start) count x r ⌝ }
 {
-    let mut low = 0;
-    let mut high = count;
+    let mut low = w.low;
+    let mut high = w.high;
     while low < high {
         let mid = low + (high - low) / 2;
         let at = start + mid * 8;
@@ -488,12 +502,69 @@ fn lower_bound32(book: &[u8], start: usize, count: usize, x: u32) -> usize
     low
 }
 
-// The second word that a table of two 32-bit words has for `id`: a snapshot's parent, or a subvolume's snapshot.
-pub fn find_word(book: &[u8], start: usize, count: usize, id: u32) -> MaybeU32
+// A window with the place of `x`, which is not before `from`: entries from there on are tried, by steps that double.
+fn window_up(book: &[u8], start: usize, count: usize, from: usize, x: u32) -> Window
     requires { ⌜ Rising wordsTable (now book) start count ⌝ }
+    requires { ⌜ Bracket (firstAt wordsTable (now book) start) count x from count ⌝ }
+    ensures { λ r. ⌜ Bracket (firstAt wordsTable (now (book .entry)) start) count x (r .low) (r .high) ⌝ }
+{
+    let mut low = from;
+    let mut step = 1;
+    while step <= count - low {
+        let i = low + step - 1;
+        let at = start + i * 8;
+        if x <= bits::be32(book, at) {
+            return Window { low, high: i };
+        }
+        low = i + 1;
+        step *= 2;
+    }
+    Window { low, high: count }
+}
+
+// A window with the place of `x`, which is not after `to`: entries before that are tried, by steps that double.
+fn window_down(book: &[u8], start: usize, count: usize, to: usize, x: u32) -> Window
+    requires { ⌜ Rising wordsTable (now book) start count ⌝ }
+    requires { ⌜ Bracket (firstAt wordsTable (now book) start) count x 0 to ⌝ }
+    ensures { λ r. ⌜ Bracket (firstAt wordsTable (now (book .entry)) start) count x (r .low) (r .high) ⌝ }
+{
+    let mut high = to;
+    let mut step = 1;
+    while step <= high {
+        let i = high - step;
+        let at = start + i * 8;
+        if bits::be32(book, at) <= x {
+            return Window { low: i, high };
+        }
+        high = i;
+        step *= 2;
+    }
+    Window { low: 0, high }
+}
+
+// A window with the place of `x`, found from entry `near` upwards or downwards; of all entries, where `near` is their count.
+fn window_near(book: &[u8], start: usize, count: usize, near: usize, x: u32) -> Window
+    requires { ⌜ Rising wordsTable (now book) start count × (near ≤ count) ⌝ }
+    ensures { λ r. ⌜ Bracket (firstAt wordsTable (now (book .entry)) start) count x (r .low) (r .high) ⌝ }
+{
+    if near == count {
+        return Window {
+            low: 0,
+            high: count,
+        };
+    }
+    let at = start + near * 8;
+    if bits::be32(book, at) < x {
+        return window_up(book, start, count, near + 1, x);
+    }
+    window_down(book, start, count, near, x)
+}
+
+// The second word that the table has for `id`, whose place is `i`.
+fn word_at(book: &[u8], start: usize, count: usize, i: usize, id: u32) -> MaybeU32
+    requires { ⌜ Rising wordsTable (now book) start count × LowerBound (firstAt wordsTable (now book) start) count id i ⌝ }
     ensures { λ r. ⌜ r ≡ maybeU32 (lookup id (wordsFrom (now (book .entry)) count start)) ⌝ }
 {
-    let i = lower_bound32(book, start, count, id);
     if i == count {
         return MaybeU32::Absent;
     }
@@ -502,6 +573,31 @@ pub fn find_word(book: &[u8], start: usize, count: usize, id: u32) -> MaybeU32
         return MaybeU32::Is(bits::be32(book, at + 4));
     }
     MaybeU32::Absent
+}
+
+// The second word that a table of two 32-bit words has for `id`: a snapshot's parent, or a subvolume's snapshot.
+pub fn find_word(book: &[u8], start: usize, count: usize, id: u32) -> MaybeU32
+    requires { ⌜ Rising wordsTable (now book) start count ⌝ }
+    ensures { λ r. ⌜ r ≡ maybeU32 (lookup id (wordsFrom (now (book .entry)) count start)) ⌝ }
+{
+    let all = Window {
+        low: 0,
+        high: count,
+    };
+    let i = bound_within(book, start, count, all, id);
+    word_at(book, start, count, i, id)
+}
+
+// The same, and the place of `id`. The search starts from the place `near`, such as that of the id before in a chain; from the count, it is among
+// all entries.
+pub fn find_word_near(book: &[u8], start: usize, count: usize, near: usize, id: u32) -> WordAt
+    requires { ⌜ Rising wordsTable (now book) start count × (near ≤ count) ⌝ }
+    ensures { λ r. ⌜ (r .word ≡ maybeU32 (lookup id (wordsFrom (now (book .entry)) count start))) × (r .at ≤ count) ⌝ }
+{
+    let w = window_near(book, start, count, near, id);
+    let at = bound_within(book, start, count, w, id);
+    let word = word_at(book, start, count, at, id);
+    WordAt { at, word }
 }
 
 // How many of the `count` entries of a table whose first field has 64 bits have one below `x`, where these rise.
