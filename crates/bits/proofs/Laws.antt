@@ -1,14 +1,14 @@
 -- Laws of the numbers that bits make.
-use Prim.Native.Nat.{ℕ, zero, suc, _+_, _-_, _*_, _/_, _%_, _^_, _≤_, _<_}
+use Prim.Native.Nat.{ℕ, zero, suc, _+_, _-_, _*_, _/_, _%_, _^_, _≤_, _<_, min}
 use mathlib.Core.Path.{_≡_, refl, sym, _∙_, ap}
 use mathlib.Core.List.{List}
-use native.Mathlib.Nat.{mod-lt, mod-one, add-zero, add-suc, add-assoc, pow-suc, mod-eq-of-lt, div-one}
+use native.Mathlib.Nat.{mod-lt, mod-one, add-zero, add-suc, add-assoc, pow-suc, mod-eq-of-lt, div-one, lt-of-lt-of-le}
 use native.Mathlib.Omega.{arith}
 use native.Mathlib.Numerals.{add-one}
 use lib.ListN.{getD, take, drop}
 use lib.Seq.{getD-take, getD-drop}
 use lib.Dec.{lit<}
-use lib.Pow.{mod-pow-add, shr-shr, shl-exact, pow-add}
+use lib.Pow.{mod-pow-add, shr-shr, shl-exact, pow-add, pow-mono}
 use Rattle.bits.specs.Bits.{bit, bitsAt, beAt, leAt}
 
 bit-lt : (s : List ℕ) (k : ℕ) → bit s k < 2
@@ -20,6 +20,15 @@ pub bits-lt : (s : List ℕ) (p n : ℕ) → bitsAt s p n < 2 ^ n
 unfolding bitsAt
 bits-lt s p zero = lit< tt
 bits-lt s p (suc n) = omega (arith, bit-lt s (p + n), bits-lt s p n, pow-suc 2 n)
+
+-- so at most 64 bits fit a word
+pub bits-fit : (s : List ℕ) (p n : ℕ) → n ≤ 64 → bitsAt s p n < 2 ^ 64
+bits-fit s p n h = lt-of-lt-of-le (bits-lt s p n) (pow-mono {j = 64} h)
+
+-- no bits make 0
+pub no-bits : (s : List ℕ) (p : ℕ) {n : ℕ} → n ≡ 0 → 0 ≡ bitsAt s p n
+unfolding bitsAt
+no-bits s p h = rw h
 
 -- a field of a + b bits is one of a bits and one of b bits after it
 pub split : (s : List ℕ) (p a b : ℕ) → bitsAt s p (a + b) ≡ bitsAt s p a * 2 ^ b + bitsAt s (p + a) b
@@ -65,6 +74,27 @@ pub more-bits : (s : List ℕ) (p done n : ℕ) → (p + done) % 8 + n ≤ 8 →
     (bitsAt s p done * 2 ^ n) % 2 ^ 64 + getD s ((p + done) / 8) 0 / 2 ^ (8 - (p + done) % 8 - n) % 2 ^ n ≡ bitsAt s p (done + n)
 more-bits s p done n h k =
     rw (split s p done n, within s (p + done) n h, shl-exact done n 64 (bits-lt s p done) k)
+
+-- a field read from its end: `size` bits of it stand in its last byte
+pub last-byte : (s : List ℕ) (p n : ℕ) {size : ℕ} → 0 < n → n ≤ 64 → size ≡ min ((p + n - 1) % 8 + 1) n →
+    (bitsAt s p (n - size) * 2 ^ size) % 2 ^ 64 + getD s ((p + n - 1) / 8) 0 / 2 ^ (7 - (p + n - 1) % 8) % 2 ^ size ≡ bitsAt s p n
+last-byte s p n {size} some few e =
+    let whole : n - size + size ≡ n = omega arith in
+    let byte : (p + (n - size)) / 8 ≡ (p + n - 1) / 8 = omega arith in
+    let shift : 8 - (p + (n - size)) % 8 - size ≡ 7 - (p + n - 1) % 8 = omega arith in
+    cc (more-bits s p (n - size) size (omega arith) (omega arith))
+
+-- a field that ends in the byte after its first
+pub across : (s : List ℕ) (p n : ℕ) → 8 < p % 8 + n → p % 8 + n ≤ 16 → let upper = 8 - p % 8 in let lower = n - upper in
+    (getD s (p / 8) 0 / 2 ^ 0 % 2 ^ upper * 2 ^ lower) % 2 ^ 64 + getD s (p / 8 + 1) 0 / 2 ^ (8 - lower) % 2 ^ lower ≡ bitsAt s p n
+across s p n h k =
+    let upper : ℕ = 8 - p % 8 in
+    let lower : ℕ = n - upper in
+    let whole : upper + lower ≡ n = omega arith in
+    let next : (p + upper) / 8 ≡ p / 8 + 1 = omega arith in
+    let shift : 8 - (p + upper) % 8 - lower ≡ 8 - lower = omega arith in
+    let none : 8 - p % 8 - upper ≡ 0 = omega arith in
+    cc (more-bits s p upper lower (omega arith) (omega arith), within s p upper (omega arith))
 
 -- a big-endian number of a + b bytes is one of a bytes and, below it, one of b bytes
 pub be-split : (s : List ℕ) (i a b : ℕ) → beAt s i (a + b) ≡ beAt s i a * 256 ^ b + beAt s (i + a) b

@@ -30,22 +30,85 @@ fn least(a: usize, b: usize) -> usize
     if a < b { a } else { b }
 }
 
+// The number that the `n` bits from bit `from` on make: those of the last byte, below those before it.
+// A function that calls itself is not inlined, so `take` stays short enough to be.
+fn bits_by_byte(s: &[u8], from: usize, n: usize) -> u64
+    requires { ⌜ (n ≤ 64) × (from + n ≤ 8 * length (now s)) × (from + n < 2 ^ 64) ⌝ }
+    ensures { λ r. ⌜ r ≡ bitsAt (now (s .entry)) from n ⌝ }
+{
+    if n == 0 {
+        return 0;
+    }
+    let last = from + n - 1;
+    let size = least(last % 8 + 1, n);
+    (bits_by_byte(s, from, n - size) << size) + part(s[last / 8], 7 - last % 8, size)
+}
+
+// The same, of a field that ends in the byte after its first.
+fn bits_of_two(s: &[u8], from: usize, n: usize) -> u64
+    requires { ⌜ (from + n ≤ 8 * length (now s)) × (8 < from % 8 + n) × (from % 8 + n ≤ 16) ⌝ }
+    ensures { λ r. ⌜ r ≡ bitsAt (now (s .entry)) from n ⌝ }
+{
+    let i = from / 8;
+    let upper = 8 - from % 8;
+    let lower = n - upper;
+    (part(s[i], 0, upper) << lower) + part(s[i + 1], 8 - lower, lower)
+}
+
+// The same, of a field of 1 to 16 bits: most stand in one byte or two.
+fn short_bits(s: &[u8], from: usize, n: usize) -> u64
+    requires { ⌜ (0 < n) × (n ≤ 16) × (from + n ≤ 8 * length (now s)) × (from + n < 2 ^ 64) ⌝ }
+    ensures { λ r. ⌜ r ≡ bitsAt (now (s .entry)) from n ⌝ }
+{
+    let end = from % 8 + n;
+    if end <= 8 {
+        return part(s[from / 8], 8 - end, n);
+    }
+    if end <= 16 {
+        return bits_of_two(s, from, n);
+    }
+    bits_by_byte(s, from, n)
+}
+
+// The same, of a field that starts with byte `i`: a word of whole bytes is read at once.
+fn word_bits(s: &[u8], i: usize, n: usize) -> u64
+    requires { ⌜ (n ≤ 64) × (8 * i + n ≤ 8 * length (now s)) × (8 * i + n < 2 ^ 64) ⌝ }
+    ensures { λ r. ⌜ r ≡ bitsAt (now (s .entry)) (8 * i) n ⌝ }
+{
+    if n == 32 {
+        return be32(s, i) as u64;
+    }
+    if n == 64 {
+        return be64(s, i);
+    }
+    bits_by_byte(s, 8 * i, n)
+}
+
+// The same, by the shortest way: where the size and the place in a byte are constants, the compiler leaves that way alone.
+fn bits_at(s: &[u8], from: usize, n: usize) -> u64
+    requires { ⌜ (n ≤ 64) × (from + n ≤ 8 * length (now s)) × (from + n < 2 ^ 64) ⌝ }
+    ensures { λ r. ⌜ r ≡ bitsAt (now (s .entry)) from n ⌝ }
+{
+    if n == 0 {
+        return 0;
+    }
+    if n <= 16 {
+        return short_bits(s, from, n);
+    }
+    if from % 8 == 0 {
+        return word_bits(s, from / 8, n);
+    }
+    bits_by_byte(s, from, n)
+}
+
 impl Cursor {
-    // The number that the next `n` bits make, and the cursor past them: a step for each byte touched.
+    // The number that the next `n` bits make, and the cursor past them.
     pub fn take(self, s: &[u8], n: usize) -> Taken
         requires { ⌜ (n ≤ 64) × (self .at + n ≤ 8 * length (now s)) × (self .at + n < 2 ^ 64) ⌝ }
         ensures { λ r. ⌜ (r .value ≡ bitsAt (now (s .entry)) (self .at) n) × (r .next .at ≡ self .at + n) × (r .value < 2 ^ n) ⌝ }
     {
         let from = self.at;
-        let mut value: u64 = 0;
-        let mut done: usize = 0;
-        while done < n {
-            let at = from + done;
-            let free = 8 - at % 8;
-            let size = least(free, n - done);
-            value = (value << size) + part(s[at / 8], free - size, size);
-            done += size;
-        }
+        let value = bits_at(s, from, n);
         Taken {
             value,
             next: Cursor { at: from + n },

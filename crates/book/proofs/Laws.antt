@@ -1,7 +1,7 @@
 -- Laws of verdicts and of walks.
 use Prim.Native.Nat.{ℕ, zero, suc, _+_, _-_, _*_, _≤_, _<_}
-use mathlib.Core.Path.{_≡_, refl}
-use mathlib.Core.Bool.{Bool, true, false}
+use mathlib.Core.Path.{_≡_, refl, sym}
+use mathlib.Core.Bool.{Bool, true, false, true≢false}
 use mathlib.Core.List.{List}
 use native.Mathlib.Omega.{arith}
 use borrow.Author.Tests.{ltb-false}
@@ -11,12 +11,13 @@ use Rattle.bits.proofs.Laws.{bits-lt}
 use Rattle.book.specs.declared.Table.{Table}
 use Rattle.book.specs.declared.KeyFront.{KeyFront}
 use Rattle.book.specs.declared.Scanned.the-variants as scanned
+use Rattle.book.specs.declared.EntryRead.the-variants as entry
 use Rattle.book.specs.declared.KeyRead.the-variants as read
 use Rattle.book.specs.declared.Verdict.{Verdict}
 use Rattle.book.specs.declared.Verdict.the-variants.{Passed, Refused}
-use Rattle.book.specs.Book.{headerOf, placesOf, keyHead, keyEnd, bookOf}
+use Rattle.book.specs.Book.{headerOf, placesOf, wordsTable, gensTable, keyHead, keyEnd, bookOf}
 use Rattle.book.specs.Refusals.{refuse, _then_, entryVerdict, tableVerdict, keyVerdict, keysVerdict, bookVerdict, outcomeOf, parse, scanOf}
-use Rattle.book.specs.Steps.{keyReadOf}
+use Rattle.book.specs.Steps.{Readable, entryReadOf, keyReadOf}
 
 -- two checks in turn are passed if each is
 pub both-passed : (a b : Verdict) → (a then b) ≡ Passed → (a ≡ Passed) × (b ≡ Passed)
@@ -82,6 +83,27 @@ key-end s p = refl
 pub key-len : (s : List ℕ) (p : ℕ) → keyHead s p .len < 2048
 unfolding keyHead
 key-len s p = bits-lt s (8 * p + 16) 11
+
+-- the tables without types
+untyped : {A : Type 0} → false ≡ true → A
+untyped e = absurd (true≢false (sym e))
+
+pub words-readable : Readable wordsTable
+words-readable = record { least = omega arith; most = omega arith; words = refl; inside = omega arith; rest = omega arith; typed = untyped }
+
+pub gens-readable : Readable gensTable
+gens-readable = record { least = omega arith; most = omega arith; words = refl; inside = omega arith; rest = omega arith; typed = untyped }
+
+-- what an answer of `check_entry` says of the entry's verdict and first field
+pub entry-refused : (v : Verdict) (x : ℕ) {n p : ℕ} → entryReadOf v x ≡ entry.Refused n p → v ≡ Refused n p
+unfolding entryReadOf
+entry-refused Passed x e = let z : _≡_ {A = ℕ} 0 1 = cc in absurd (omega arith)
+entry-refused (Refused n p) x e = cc
+
+pub entry-passed : (v : Verdict) (x : ℕ) {y : ℕ} → entryReadOf v x ≡ entry.First y → (v ≡ Passed) × (x ≡ y)
+unfolding entryReadOf
+entry-passed Passed x e = (refl, cc)
+entry-passed (Refused n p) x e = let z : _≡_ {A = ℕ} 0 1 = cc in absurd (omega arith)
 
 -- what an answer of `read_key` says of the key's verdict and front
 pub read-refused : (v : Verdict) (f : KeyFront) {n p : ℕ} → keyReadOf v f ≡ read.Refused n p → v ≡ Refused n p

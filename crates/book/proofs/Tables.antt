@@ -4,18 +4,18 @@ use mathlib.Core.Path.{_≡_, refl, sym, ap, _∙_}
 use mathlib.Core.List.{List}
 use mathlib.Core.Option.{none, some}
 use mathlib.Core.Logic.{⊎-elim}
-use native.Mathlib.Nat.{zero-mul, add-zero, not-suc-le-zero, le-of-suc-le-suc, eq-or-lt-of-le, mul-le-mul-right}
+use native.Mathlib.Nat.{zero-mul, add-zero, not-suc-le-zero, le-of-suc-le-suc, eq-or-lt-of-le, mul-le-mul-right, lt-of-lt-of-le}
 use native.Mathlib.Omega.{arith}
 use lib.ListN.{length, getD}
 use borrow.Author.Tests.{leb-false, le-leb}
 use Rattle.bits.specs.Bits.{beAt}
 use Rattle.bits.proofs.Laws.{bits-be}
-use Rattle.search.specs.Bound.{LowerBound}
+use Rattle.search.specs.Bound.{LowerBound, Bracket}
 use Rattle.search.proofs.Bracket.{NotFalling, rises, rising-order, le-or-lt}
 use Rattle.book.specs.declared.Table.{Table}
 use Rattle.book.specs.declared.Verdict.the-variants.{Passed}
 use Rattle.book.specs.Maps.{lookup, lowerBound}
-use Rattle.book.specs.Book.{entryAt, tableFrom}
+use Rattle.book.specs.Book.{wordsTable, entryAt, tableFrom}
 use Rattle.book.specs.Refusals.{entryVerdict, tableVerdict}
 use Rattle.book.specs.Walk.{firstAt, Rising}
 use Rattle.book.proofs.Laws.{both-passed, test-fails, entry-fits}
@@ -74,6 +74,17 @@ entry-inside {t} {s} {start} {n} r k l = omega (arith, r .inside, mul-le-mul-rig
 
 pub rising-first : {t : Table} {s : List ℕ} {start n : ℕ} → Rising t s start n → NotFalling (firstAt t s start) n
 rising-first {t} {s} {start} {n} r = rising-order (firstAt t s start) n (r .rises)
+
+-- an entry that is not above x stands at its place or before it
+pub bracket-from : {t : Table} {s : List ℕ} {start n x low high : ℕ} → Rising t s start n → Bracket (firstAt t s start) n x low high →
+    (m : ℕ) → m < high → firstAt t s start m ≤ x → Bracket (firstAt t s start) n x m high
+bracket-from r b m l h =
+    let i = b .inside in
+    record { ordered = omega arith; inside = i; below = λ k e. lt-of-lt-of-le (r .rises k m e (omega arith)) h; above = b .above }
+
+-- a word that was read is the first field of entry i
+pub word-first : (s : List ℕ) → ((j : ℕ) → getD s j 0 < 256) → (start i : ℕ) {w : ℕ} → w ≡ beAt s (start + i * 8) 4 → w ≡ firstAt wordsTable s start i
+word-first s bytes start i e = e ∙ sym (first-be wordsTable s bytes (start + i * 8) 4 refl)
 
 module _ {A : Type 0} (read : ℕ → A) (t : Table) (s : List ℕ) where
   -- the entry at byte p, as a pair of the map

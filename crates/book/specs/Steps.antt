@@ -1,20 +1,40 @@
 -- What only contracts of private functions cite: the steps of `scan` and of a search.
-use Prim.Native.Nat.{_+_, _*_, _^_, _≤_, _<_}
+use Prim.Native.Nat.{ℕ, _+_, _-_, _*_, _%_, _^_, _≤_, _<_}
+use mathlib.Core.Path.{_≡_}
+use mathlib.Core.Bool.{true}
+use mathlib.Core.List.{List}
 use Rattle.book.specs.declared.Places.{Places}
 use Rattle.book.specs.declared.Table.{Table}
 use Rattle.book.specs.declared.KeyFront.{KeyFront}
+use Rattle.book.specs.declared.EntryRead.{EntryRead}
+use Rattle.book.specs.declared.EntryRead.the-variants as entry
 use Rattle.book.specs.declared.KeyRead.{KeyRead}
 use Rattle.book.specs.declared.KeyRead.the-variants as read
 use Rattle.book.specs.declared.Verdict.{Verdict}
 use Rattle.book.specs.declared.Verdict.the-variants as verdict
+use Rattle.book.specs.Book.{entryAt}
 
--- a table whose entries are whole bytes, with two parts of at most 64 bits: each of the four is
-abbrev pub Readable : Table → Type 0
-Readable t = (t .first ≤ 64) × (t .first ≤ 8 * t .size) × (8 * t .size ≤ t .first + 64)
+-- a table whose first field is a word of 32 or 64 bits, and that only as an alloc table has types: each of the four is
+pub record Readable (t : Table) : Type 0 where
+  pub least : 32 ≤ t .first
+  pub most : t .first ≤ 64
+  pub words : t .first % 32 ≡ 0
+  pub inside : t .first ≤ 8 * t .size
+  pub rest : 8 * t .size ≤ t .first + 64
+  pub typed : t .typed ≡ true → (t .first ≡ 64) × (t .size ≡ 10)
+
+-- the entry before the one at byte p, if the table, which starts at byte start, has one, has this first field
+abbrev pub FirstBefore : Table → List ℕ → ℕ → ℕ → ℕ → Type 0
+FirstBefore t s start p first = start + t .size ≤ p → first ≡ entryAt t s (p - t .size) .first
 
 -- places that no sum of `scan` carries past a usize
 abbrev pub Near : Places → Type 0
 Near at = (at .parents < 2 ^ 31) × (at .subvolumes < 2 ^ 31) × (at .gens < 2 ^ 31) × (at .alloc < 2 ^ 31) × (at .keys < 2 ^ 31)
+
+-- what `check_entry` answers, by the verdict on an entry and its first field
+unfoldable pub entryReadOf : Verdict → ℕ → EntryRead
+entryReadOf verdict.Passed first = entry.First first
+entryReadOf (verdict.Refused number place) first = entry.Refused number place
 
 -- what `read_key` answers, by the verdict on a key and its front
 unfoldable pub keyReadOf : Verdict → KeyFront → KeyRead

@@ -1,5 +1,6 @@
 // What bytes are a book: its header, its four tables and its keys, read where they stand.
 ghost use mathlib.Core.Path.{_≡_};
+ghost use mathlib.Core.Bool.{true};
 ghost use Prim.Native.Nat.{_+_, _*_, _^_, _<_, _≤_};
 ghost use lib.ListN.{length};
 ghost use Rattle.book.specs.Maps.{lookup, lowerBound};
@@ -27,8 +28,8 @@ ghost use Rattle.book.specs.Refusals.{
   scanOf,
 };
 ghost use Rattle.book.specs.Walk.{firstAt, Rising, frontOf, maybeU8, maybeU32, allocEntryOf};
-ghost use Rattle.book.specs.Steps.{Readable, Near, keyReadOf};
-ghost use Rattle.search.specs.Bound.{LowerBound};
+ghost use Rattle.book.specs.Steps.{Readable, FirstBefore, Near, entryReadOf, keyReadOf};
+ghost use Rattle.search.specs.Bound.{LowerBound, Bracket};
 use bits::Cursor;
 
 // The first 32 bytes, field by field. The mark `trees` says that the snapshot_trees btree is present.
@@ -108,9 +109,29 @@ pub enum MaybeU32 {
     Absent,
 }
 
+// What a search from a place on finds: the place where it ended, and the word.
+pub struct WordAt {
+    pub at: usize,
+    pub word: MaybeU32,
+}
+
+// Entries of a table: those from `low` on, before `high`.
+pub struct Window {
+    pub low: usize,
+    pub high: usize,
+}
+
 // What a check of a book, or of a part of it, gives.
 pub enum Verdict {
     Passed,
+    // the refusal's number and its place
+    Refused(usize, usize),
+}
+
+// What stands where an entry of a table is due.
+pub enum EntryRead {
+    // the entry's first field
+    First(u64),
     // the refusal's number and its place
     Refused(usize, usize),
 }
@@ -217,34 +238,58 @@ fn read_entry(book: &[u8], t: Table, at: usize) -> Entry
     }
 }
 
-// Whether the rest of an entry is one that its table may not hold.
-fn bad_rest(typed: bool, rest: u64) -> bool
-    ensures { λ r. ⌜ r ≡ badRest typed rest ⌝ }
+// The first field of the entry of a table at byte `at`.
+fn read_first(book: &[u8], t: Table, at: usize) -> u64
+    requires { ⌜ Readable t × (at + t .size ≤ length (now book)) ⌝ }
+    ensures { λ r. ⌜ r ≡ entryAt t (now (book .entry)) at .first ⌝ }
 {
-    typed & ((rest % 128 != 0) | ((rest / 32768 == 0) & (rest / 128 % 256 != 0)))
+    if t.first == 32 {
+        return bits::be32(book, at) as u64;
+    }
+    bits::be64(book, at)
 }
 
-// What the entry at byte `at` gives, in a table that starts at byte `start`.
-fn entry_verdict(book: &[u8], t: Table, start: usize, at: usize) -> Verdict
+// Whether the rest of an alloc entry has a spare bit set, or a data type without has-type.
+fn bad_rest(rest: u64) -> bool
+    ensures { λ r. ⌜ r ≡ badRest true rest ⌝ }
+{
+    (rest % 128 != 0) | ((rest / 32768 == 0) & (rest / 128 % 256 != 0))
+}
+
+// Whether the rest of the entry at byte `at` is one that its table may not hold: only an alloc table has such.
+fn bad_entry(book: &[u8], t: Table, at: usize) -> bool
+    requires { ⌜ Readable t × (length (now book) ≤ 1048576) × (at + t .size ≤ length (now book)) ⌝ }
+    ensures { λ r. ⌜ r ≡ badRest (t .typed) (entryAt t (now (book .entry)) at .rest) ⌝ }
+{
+    if !t.typed {
+        return false;
+    }
+    let c = Cursor { at: 8 * at + 64 };
+    let rest = c.take(book, 16);
+    bad_rest(rest.value)
+}
+
+// What stands at byte `at`, where an entry is due, in a table that starts at byte `start`; the entry before, if there is one, has the first
+// field `previous`.
+fn check_entry(book: &[u8], t: Table, start: usize, at: usize, previous: u64) -> EntryRead
     requires { ⌜ Readable t × (length (now book) ≤ 1048576) × (start < 2 ^ 32) × (at < 2 ^ 32) ⌝ }
-    ensures { λ r. ⌜ r ≡ entryVerdict t (now (book .entry)) start at ⌝ }
+    requires { ⌜ FirstBefore t (now book) start at previous ⌝ }
+    ensures { λ r. ⌜ r ≡ entryReadOf (entryVerdict t (now (book .entry)) start at) (entryAt t (now (book .entry)) at .first) ⌝ }
 {
     if book.len() < at + t.size {
-        return Verdict::Refused(4, at);
+        return EntryRead::Refused(4, at);
     }
-    let e = read_entry(book, t, at);
-    if bad_rest(t.typed, e.rest) {
-        return Verdict::Refused(5, at);
+    if bad_entry(book, t, at) {
+        return EntryRead::Refused(5, at);
     }
+    let first = read_first(book, t, at);
     if at < start + t.size {
-        return Verdict::Passed;
+        return EntryRead::First(first);
     }
-    let previous = at - t.size;
-    let before = read_entry(book, t, previous);
-    if e.first <= before.first {
-        return Verdict::Refused(6, at);
+    if first <= previous {
+        return EntryRead::Refused(6, at);
     }
-    Verdict::Passed
+    EntryRead::First(first)
 }
 
 // The first refusal of the `count` entries of the table that starts at byte `start`.
@@ -254,11 +299,17 @@ fn table_verdict(book: &[u8], t: Table, start: usize, count: u16) -> Verdict
 {
     let mut left = count;
     let mut at = start;
+    let mut previous = 0;
     while 0 < left {
-        let v = entry_verdict(book, t, start, at);
-        let Verdict::Passed = v else {
-            return v;
-        };
+        let e = check_entry(book, t, start, at, previous);
+        match e {
+            EntryRead::Refused(number, place) => {
+                return Verdict::Refused(number, place);
+            }
+            EntryRead::First(first) => {
+                previous = first;
+            }
+        }
         at += t.size;
         left -= 1;
     }
@@ -430,13 +481,15 @@ pub fn scan(book: &[u8]) -> Scanned
     }
 }
 
-// How many of the `count` entries of two 32-bit words from byte `start` on, whose first words rise, have one below `x`.
-fn lower_bound32(book: &[u8], start: usize, count: usize, x: u32) -> usize
+// The place of `x` among the `count` entries of two 32-bit words from byte `start` on, whose first words rise: how many of these are below it.
+// It is in the window `w`.
+fn bound_within(book: &[u8], start: usize, count: usize, w: Window, x: u32) -> usize
     requires { ⌜ Rising wordsTable (now book) start count ⌝ }
+    requires { ⌜ Bracket (firstAt wordsTable (now book) start) count x (w .low) (w .high) ⌝ }
     ensures { λ r. ⌜ LowerBound (firstAt wordsTable (now (book .entry)) start) count x r ⌝ }
 {
-    let mut low = 0;
-    let mut high = count;
+    let mut low = w.low;
+    let mut high = w.high;
     while low < high {
         let mid = low + (high - low) / 2;
         let at = start + mid * 8;
@@ -449,12 +502,69 @@ fn lower_bound32(book: &[u8], start: usize, count: usize, x: u32) -> usize
     low
 }
 
-// The second word that a table of two 32-bit words has for `id`: a snapshot's parent, or a subvolume's snapshot.
-pub fn find_word(book: &[u8], start: usize, count: usize, id: u32) -> MaybeU32
+// A window with the place of `x`, which is not before `from`: entries from there on are tried, by steps that double.
+fn window_up(book: &[u8], start: usize, count: usize, from: usize, x: u32) -> Window
     requires { ⌜ Rising wordsTable (now book) start count ⌝ }
+    requires { ⌜ Bracket (firstAt wordsTable (now book) start) count x from count ⌝ }
+    ensures { λ r. ⌜ Bracket (firstAt wordsTable (now (book .entry)) start) count x (r .low) (r .high) ⌝ }
+{
+    let mut low = from;
+    let mut step = 1;
+    while step <= count - low {
+        let i = low + step - 1;
+        let at = start + i * 8;
+        if x <= bits::be32(book, at) {
+            return Window { low, high: i };
+        }
+        low = i + 1;
+        step *= 2;
+    }
+    Window { low, high: count }
+}
+
+// A window with the place of `x`, which is not after `to`: entries before that are tried, by steps that double.
+fn window_down(book: &[u8], start: usize, count: usize, to: usize, x: u32) -> Window
+    requires { ⌜ Rising wordsTable (now book) start count ⌝ }
+    requires { ⌜ Bracket (firstAt wordsTable (now book) start) count x 0 to ⌝ }
+    ensures { λ r. ⌜ Bracket (firstAt wordsTable (now (book .entry)) start) count x (r .low) (r .high) ⌝ }
+{
+    let mut high = to;
+    let mut step = 1;
+    while step <= high {
+        let i = high - step;
+        let at = start + i * 8;
+        if bits::be32(book, at) <= x {
+            return Window { low: i, high };
+        }
+        high = i;
+        step *= 2;
+    }
+    Window { low: 0, high }
+}
+
+// A window with the place of `x`, found from entry `near` upwards or downwards; of all entries, where `near` is their count.
+fn window_near(book: &[u8], start: usize, count: usize, near: usize, x: u32) -> Window
+    requires { ⌜ Rising wordsTable (now book) start count × (near ≤ count) ⌝ }
+    ensures { λ r. ⌜ Bracket (firstAt wordsTable (now (book .entry)) start) count x (r .low) (r .high) ⌝ }
+{
+    if near == count {
+        return Window {
+            low: 0,
+            high: count,
+        };
+    }
+    let at = start + near * 8;
+    if bits::be32(book, at) < x {
+        return window_up(book, start, count, near + 1, x);
+    }
+    window_down(book, start, count, near, x)
+}
+
+// The second word that the table has for `id`, whose place is `i`.
+fn word_at(book: &[u8], start: usize, count: usize, i: usize, id: u32) -> MaybeU32
+    requires { ⌜ Rising wordsTable (now book) start count × LowerBound (firstAt wordsTable (now book) start) count id i ⌝ }
     ensures { λ r. ⌜ r ≡ maybeU32 (lookup id (wordsFrom (now (book .entry)) count start)) ⌝ }
 {
-    let i = lower_bound32(book, start, count, id);
     if i == count {
         return MaybeU32::Absent;
     }
@@ -463,6 +573,31 @@ pub fn find_word(book: &[u8], start: usize, count: usize, id: u32) -> MaybeU32
         return MaybeU32::Is(bits::be32(book, at + 4));
     }
     MaybeU32::Absent
+}
+
+// The second word that a table of two 32-bit words has for `id`: a snapshot's parent, or a subvolume's snapshot.
+pub fn find_word(book: &[u8], start: usize, count: usize, id: u32) -> MaybeU32
+    requires { ⌜ Rising wordsTable (now book) start count ⌝ }
+    ensures { λ r. ⌜ r ≡ maybeU32 (lookup id (wordsFrom (now (book .entry)) count start)) ⌝ }
+{
+    let all = Window {
+        low: 0,
+        high: count,
+    };
+    let i = bound_within(book, start, count, all, id);
+    word_at(book, start, count, i, id)
+}
+
+// The same, and the place of `id`. The search starts from the place `near`, such as that of the id before in a chain; from the count, it is among
+// all entries.
+pub fn find_word_near(book: &[u8], start: usize, count: usize, near: usize, id: u32) -> WordAt
+    requires { ⌜ Rising wordsTable (now book) start count × (near ≤ count) ⌝ }
+    ensures { λ r. ⌜ (r .word ≡ maybeU32 (lookup id (wordsFrom (now (book .entry)) count start))) × (r .at ≤ count) ⌝ }
+{
+    let w = window_near(book, start, count, near, id);
+    let at = bound_within(book, start, count, w, id);
+    let word = word_at(book, start, count, at, id);
+    WordAt { at, word }
 }
 
 // How many of the `count` entries of a table whose first field has 64 bits have one below `x`, where these rise.

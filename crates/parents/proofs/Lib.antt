@@ -3,3 +3,4 @@ mod Climb
 mod Examples
 pub mod Laws
 pub mod Links
+mod Viewed

@@ -9,6 +9,7 @@ ghost use Rattle.book.specs.Walk.{Rising, maybeU32};
 ghost use Rattle.parents.specs.Roots.{rootOf};
 ghost use Rattle.parents.specs.Answers.{rootIs, ancestorsOf};
 use book::MaybeU32;
+use book::WordAt;
 
 // A view onto the parents table of a lent book.
 pub struct Parents<'a> {
@@ -45,6 +46,14 @@ pub fn get<'a>(v: Parents<'a>, id: u32) -> MaybeU32
     book::find_word(v.book, v.start, v.count, id)
 }
 
+// The same from the place `near` on, with the place of `id`.
+pub fn get_near<'a>(v: Parents<'a>, near: usize, id: u32) -> WordAt
+    requires { ⌜ Rising wordsTable (now (v .book)) (v .start) (v .count) × (near ≤ v .count) ⌝ }
+    ensures { λ r. ⌜ (r .word ≡ maybeU32 (lookup id (wordsFrom (now (v .entry .book)) (v .entry .count) (v .entry .start)))) × (r .at ≤ v .entry .count) ⌝ }
+{
+    book::find_word_near(v.book, v.start, v.count, near, id)
+}
+
 // The parent that the table gives `id`, for callers that hold no view: one is made and consulted here.
 pub fn parent_of(book: &[u8], start: usize, count: usize, id: u32) -> MaybeU32
     requires { ⌜ Rising wordsTable (now book) start count ⌝ }
@@ -53,29 +62,37 @@ pub fn parent_of(book: &[u8], start: usize, count: usize, id: u32) -> MaybeU32
     get(view(book, start, count), id)
 }
 
+// The same from the place `near` on, with the place of `id`: by it the next id of a chain is looked for.
+fn parent_near(book: &[u8], start: usize, count: usize, near: usize, id: u32) -> WordAt
+    requires { ⌜ Rising wordsTable (now book) start count × (near ≤ count) ⌝ }
+    ensures { λ r. ⌜ (r .word ≡ maybeU32 (lookup id (wordsFrom (now (book .entry)) count start))) × (r .at ≤ count) ⌝ }
+{
+    get_near(view(book, start, count), near, id)
+}
+
 // The root above `id`, within 1,024 links.
 pub fn root_of(book: &[u8], start: usize, count: usize, id: u32) -> Root
     requires { ⌜ Rising wordsTable (now book) start count ⌝ }
     ensures { λ r. ⌜ r ≡ rootIs (rootOf (wordsFrom (now (book .entry)) count start) id) ⌝ }
 {
     let mut at = id;
+    let mut near = count;
     let mut links: u32 = 0;
     loop {
-        match parent_of(book, start, count, at) {
-            MaybeU32::Is(p) => {
-                if p == 0 {
-                    return Root::At { root: at, links };
-                }
-                if links == 1024 {
-                    return Root::NoRoot;
-                }
-                at = p;
-                links += 1;
-            }
-            MaybeU32::Absent => {
-                return Root::NoRoot;
-            }
+        let found = parent_near(book, start, count, near, at);
+        near = found.at;
+        let parent = found.word;
+        let MaybeU32::Is(p) = parent else {
+            return Root::NoRoot;
+        };
+        if p == 0 {
+            return Root::At { root: at, links };
         }
+        if links == 1024 {
+            return Root::NoRoot;
+        }
+        at = p;
+        links += 1;
     }
 }
 
@@ -87,38 +104,38 @@ pub fn ancestors_of(book: &[u8], start: usize, count: usize, id: u32) -> Ancesto
     let mut ids = [0u32; 1024];
     let mut len: usize = 0;
     let mut at = id;
+    let mut near = count;
     loop {
-        match parent_of(book, start, count, at) {
-            MaybeU32::Is(p) => {
-                if p == 0 {
-                    return Ancestors {
-                        ids,
-                        len,
-                        root: Root::At {
-                            root: at,
-                            links: len as u32,
-                        },
-                    };
-                }
-                if len == 1024 {
-                    return Ancestors {
-                        ids,
-                        len,
-                        root: Root::NoRoot,
-                    };
-                }
-                ids[len] = p;
-                len += 1;
-                at = p;
-            }
-            MaybeU32::Absent => {
-                return Ancestors {
-                    ids,
-                    len,
-                    root: Root::NoRoot,
-                };
-            }
+        let found = parent_near(book, start, count, near, at);
+        near = found.at;
+        let parent = found.word;
+        let MaybeU32::Is(p) = parent else {
+            return Ancestors {
+                ids,
+                len,
+                root: Root::NoRoot,
+            };
+        };
+        if p == 0 {
+            return Ancestors {
+                ids,
+                len,
+                root: Root::At {
+                    root: at,
+                    links: len as u32,
+                },
+            };
         }
+        if len == 1024 {
+            return Ancestors {
+                ids,
+                len,
+                root: Root::NoRoot,
+            };
+        }
+        ids[len] = p;
+        len += 1;
+        at = p;
     }
 }
 

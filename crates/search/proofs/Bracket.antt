@@ -6,17 +6,11 @@ use native.Mathlib.Decide.{decLe}
 use native.Mathlib.Nat.{lt-of-not-le, le-refl, le-trans, lt-trans, lt-of-le-of-lt, not-suc-le-zero, le-of-suc-le-suc, eq-or-lt-of-le}
 use native.Mathlib.Omega.{arith}
 use Rattle.search.specs.Bound.{LowerBound}
+pub use Rattle.search.specs.Bound.{Bracket}
 
 -- one order or the other
 pub le-or-lt : (a b : ℕ) → (a ≤ b) ⊎ (b < a)
 le-or-lt a b = elim (decLe a b) [ yes h ↦ inl h | no h ↦ inr (lt-of-not-le h) ]
-
--- x's place is from low to high: all before low are below x, and none from high on is
-pub record Bracket (f : ℕ → ℕ) (n x low high : ℕ) : Type 0 where
-  pub ordered : low ≤ high
-  pub inside : high ≤ n
-  pub below : (k : ℕ) → k < low → f k < x
-  pub above : (k : ℕ) → high ≤ k → k < n → x ≤ f k
 
 -- f does not fall among its first n values
 abbrev pub NotFalling : (ℕ → ℕ) → ℕ → Type 0

@@ -1,10 +1,11 @@
 -- The turn of a rule's walk over the keys of a book, by the step of the book and the turn of the findings.
 use Prim.Native.Nat.{ℕ, _+_, _-_, _*_, _^_, _≤_, _<_}
-use mathlib.Core.Path.{_≡_, refl}
+use mathlib.Core.Path.{_≡_, refl, sym}
 use mathlib.Core.List.{List, []}
 use native.Mathlib.Omega.{arith}
-use lib.ListN.{length}
-use Rattle.bits.proofs.Laws.{bits-lt}
+use lib.ListN.{length, getD}
+use Rattle.bits.specs.Bits.{bitsAt, beAt}
+use Rattle.bits.proofs.Laws.{bits-lt, bits-be}
 use Rattle.findings.specs.Findings.{Finding, Added, each}
 use Rattle.findings.proofs.Walk.{rule, Begun, turn, each-cons, each-next}
 use Rattle.book.specs.declared.KeyFront.{KeyFront}
@@ -26,6 +27,10 @@ value-fits s n p h fit = step s n p h fit .value
 
 pub rest-fits : (s : List ℕ) (n p : ℕ) {f : KeyFront} → 0 < n → f ≡ frontOf (keyHead s p) → KeysFit s n p → KeysFit s (n - 1) (p + 28 + f .len)
 rest-fits s n p h e fit = rw (front-end s p e) (step s n p h fit .rest)
+
+-- a field of a key's head that starts with its byte i and has k whole bytes
+pub head-word : (s : List ℕ) → ((j : ℕ) → getD s j 0 < 256) → (p i k : ℕ) → beAt s (p + i) k ≡ bitsAt s (8 * p + 8 * i) (8 * k)
+head-word s bytes p i k = let place : 8 * p + 8 * i ≡ 8 * (p + i) = omega arith in rw place (sym (bits-be s bytes (p + i) k))
 
 -- an offset has 64 bits
 pub offset-lt : (s : List ℕ) (p : ℕ) → keyAt s p .offset < 2 ^ 64

@@ -18,8 +18,7 @@ pub fn key_offset(book: &[u8], p: usize, f: KeyFront) -> u64
     requires { ⌜ AtKey (now book) p f ⌝ }
     ensures { λ r. ⌜ r ≡ keyAt (now (book .entry)) p .offset ⌝ }
 {
-    let h = book::key_head(book, p);
-    h.offset
+    bits::be64(book, p + 16)
 }
 
 // The inode of the key at byte p.
@@ -27,6 +26,5 @@ pub fn key_inode(book: &[u8], p: usize, f: KeyFront) -> u64
     requires { ⌜ AtKey (now book) p f ⌝ }
     ensures { λ r. ⌜ r ≡ keyAt (now (book .entry)) p .inode ⌝ }
 {
-    let h = book::key_head(book, p);
-    h.inode
+    bits::be64(book, p + 8)
 }

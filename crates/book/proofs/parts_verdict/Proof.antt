@@ -1,8 +1,9 @@
 -- `book::parts_verdict` meets its contract: each part in turn stops the walk, or hands on to the next.
 use mathlib.Core.Path.{sym, _∙_}
 use Rattle.book.specs.Refusals.{partsVerdict}
-use Rattle.book.proofs.Laws.{stops, goes-on}
+use Rattle.book.proofs.Laws.{words-readable, gens-readable, stops, goes-on}
 use borrow.Author.Needs.{needs}
+use native.Mathlib.Omega.{arith}
 use Rattle.book.proofs.parts_verdict.Statement.{statement}
 use Rattle.book.proofs.parts_verdict.Tie as tie
 
@@ -50,15 +51,15 @@ pub parts-verdict-spec : {M : Type 1} → statement M
 parts-verdict-spec =
     tie.close
     (tie.spec
-    (λ c κs. search needs)
+    (λ c κs. (words-readable, omega arith, omega arith))
     (λ c. search needs)
     (λ c. search needs)
     returns
-    (λ c κs. search needs)
+    (λ c κs. (words-readable, omega arith, omega arith))
     (λ c. search needs)
     (λ c. search needs)
     returns-2
-    (λ c κs. search needs)
+    (λ c κs. (gens-readable, omega arith, omega arith))
     (λ c. search needs)
     (λ c. search needs)
     returns-3

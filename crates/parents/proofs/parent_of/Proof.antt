@@ -42,6 +42,7 @@ use Rattle.book.specs.Book.{wordsTable, wordsFrom}
 use Rattle.book.specs.Walk.{Rising, maybeU32}
 use Rattle.parents.specs.declared.Parents.{Parents}
 use Rattle.book.specs.declared.MaybeU32.{MaybeU32}
+use Rattle.parents.proofs.Viewed.{Viewed, view-has, view-gives}
 use Rattle.parents.proofs.Parents as T
 use Rattle.parents.proofs.Parents.Laws as T′
 use Rattle.book.proofs.MaybeU32 as S
@@ -66,15 +67,12 @@ B κs = T.the-row (namedLft 1 0 tt κs)
 abbrev stayed : Stays (parent-of.ended .signature .params) (parent-of.ended .kept)
 stayed = (stay-none-slice (0 ∷ []) tt (plain (λ _. u8)) yes, (stay-none (λ _. usize) yes, (stay-none (λ _. usize) yes, (stay-none (λ _. u32) yes, tt))))
 
--- what `view` says of its result, and what follows for `get`: what it asks, and what it answers
-abbrev Viewed : RefT (List ℕ) → ℕ → ℕ → Parents → Type 0
-Viewed s a b r = (r .book ≡ s) × (r .start ≡ a) × (r .count ≡ b)
+-- what `get` asks and what it answers, of a slice and numbers as of a view's
+abbrev Asks : RefT (List ℕ) → ℕ → ℕ → Type 0
+Asks s a b = Rising wordsTable (now s) a b
 
-viewed-asks : (s : RefT (List ℕ)) (a b : ℕ) (r : Parents) → Viewed s a b r → Rising wordsTable (now s) a b → Rising wordsTable (now (r .book)) (r .start) (r .count)
-viewed-asks s a b r e table = rw (e .0, e .1, e .2) table
-
-viewed-says : (s : RefT (List ℕ)) (a b n : ℕ) (r : Parents) (t : MaybeU32) → Viewed s a b r → t ≡ maybeU32 (lookup n (wordsFrom (now (r .book)) (r .count) (r .start))) → t ≡ maybeU32 (lookup n (wordsFrom (now s) b a))
-viewed-says s a b n r t e h = rw (e .0, e .1, e .2) at h
+abbrev Says : ℕ → MaybeU32 → RefT (List ℕ) → ℕ → ℕ → Type 0
+Says n t s a b = t ≡ maybeU32 (lookup n (wordsFrom (now s) b a))
 
 module _ {M : Type 1} (𝓤 : URA M) (H : Heap 𝓤) (A : Atoms 𝓤) (mem : Memory → SProp 𝓤) (run : Routine → Fun 𝓤) where
   -- the contracts that the proof cites
@@ -85,13 +83,10 @@ module _ {M : Type 1} (𝓤 : URA M) (H : Heap 𝓤) (A : Atoms 𝓤) (mem : Mem
   Get = tripleOf 𝓤 H A get.signature (get.spec 𝓤 H A mem run)
 
 module _ {M : Type 1} (𝓤 : URA M) (H : Heap 𝓤) (A : Atoms 𝓤) (W : Given 𝓤 H A) (mem : Memory → SProp 𝓤) (run : Routine → Fun 𝓤) (κ : Lft) (q : Share) (s : RefT (List ℕ)) (a b n : ℕ)
-    (a-fits : a < 2 ^ 64) (b-fits : b < 2 ^ 64) (n-fits : n < 2 ^ 32) (table : Rising wordsTable (now s) a b) where
+    (a-fits : a < 2 ^ 64) (b-fits : b < 2 ^ 64) (n-fits : n < 2 ^ 32) (table : Asks s a b) where
   -- the machine value that s has
   abbrev v : Val
   v = sliceVal (s .ptr) (length (s .now))
-
-  abbrev found : MaybeU32
-  found = maybeU32 (lookup n (wordsFrom (now s) b a))
 
   -- the struct's type as a local of a body has it
   abbrev αᵉ : NamedLft
@@ -130,16 +125,16 @@ module _ {M : Type 1} (𝓤 : URA M) (H : Heap 𝓤) (A : Atoms 𝓤) (W : Given
 
   goes-get : (r : Parents) (u : Val) → Viewed s a b r → ent 𝓤 (⋆ 𝓤 H A (‵ (B (κ, tt) .own r (u ∷ [])) ∷ (‵ (flft κ q) ⊛ ‵ ftrue) ∷ [])) (Get 𝓤 H A mem run .pre (to-get r u))
   goes-get r u e =
-      qed W (‵ (B (κ, tt) .own r (u ∷ [])) ∷ (‵ (flft κ q) ⊛ ‵ ftrue) ∷ []) ∵ says ! (viewed-asks s a b r e table) $
+      qed W (‵ (B (κ, tt) .own r (u ∷ [])) ∷ (‵ (flft κ q) ⊛ ‵ ftrue) ∷ []) ∵ says ! (view-has Asks e table) $
       nothing ! $ owned ! u32 (Is u32) (uint-makes 𝓤 H A W w32) n _ (refl, n-fits) $ fjoin ! $ move ! (1 ∷ 0 ∷ []) $ fjoin ! $ move ! (1 ∷ 0 ∷ []) $ frame ! $ done !
 
   abbrev Got : Parents → MaybeU32 → Type 0
-  Got r t = t ≡ maybeU32 (lookup n (wordsFrom (now (r .book)) (r .count) (r .start)))
+  Got r t = Says n t (r .book) (r .start) (r .count)
 
   get-said : (r : Parents) (t : MaybeU32) → ent 𝓤 (ensured 𝓤 H A get.ended (get.clauses 𝓤 H A mem run) (κ, tt) (r, (n, tt)) tt t) (fact 𝓤 (Got r t))
   get-said r t = exE 𝓤 _ (λ ws. snd∗ 𝓤 (sem 𝓤 H A (lasts get.ended (κ, tt) (r, (n, tt)) ws)) (fact 𝓤 (Got r t)))
 
-  exits : (t : MaybeU32) (u : Val) → t ≡ found → ent 𝓤 (⋆ 𝓤 H A (‵ (S.the-row .own t (u ∷ [])) ∷ (‵ (flft κ q) ⊛ ‵ ftrue) ∷ ‵ Own ∷ [])) (Post u)
+  exits : (t : MaybeU32) (u : Val) → Says n t s a b → ent 𝓤 (⋆ 𝓤 H A (‵ (S.the-row .own t (u ∷ [])) ∷ (‵ (flft κ q) ⊛ ‵ ftrue) ∷ ‵ Own ∷ [])) (Post u)
   exits t u e =
       qed W (‵ (S.the-row .own t (u ∷ [])) ∷ (‵ (flft κ q) ⊛ ‵ ftrue) ∷ ‵ Own ∷ []) ∵
       suffices ! _ (ends-at 𝓤 H A parent-of.ended stayed (parent-of.clauses 𝓤 H A mem run) W (((κ, tt), (q, tt), tt, args, vals), tt) u t (tt, (tt, (tt, (tt, tt)))) (tt, (tt, (tt, (tt, tt))))) $ says ! e $
@@ -168,14 +163,14 @@ module _ {M : Type 1} (𝓤 : URA M) (H : Heap 𝓤) (A : Atoms 𝓤) (W : Given
         land ! (from ! (stop !)) (init ! 13 refl (EL.lawful S.the-type S′.the-laws 𝓤 H A W tt .typed t _ is′ .0)) $
         returns ! (look ! 13 refl) $ forget ! 3 refl $ forget ! 5 refl $ forget ! 7 refl $ forget ! 9 refl $ forget ! 11 refl $ forget ! 13 refl $
         move ! (13 ∷ 14 ∷ []) $ free1 ! $ move ! (11 ∷ 12 ∷ []) $ free1 ! $ move ! (9 ∷ 10 ∷ []) $ free1 ! $ move ! (7 ∷ 8 ∷ []) $ free1 ! $ move ! (5 ∷ 6 ∷ []) $ free1 ! $ move ! (3 ∷ 4 ∷ []) $ free1 ! $ free0 ! $
-        by ! (exits t u′ (viewed-says s a b n r t e e′))))))))))))))))
+        by ! (exits t u′ (view-gives (Says n t) e e′))))))))))))))))
 
 module _ {M : Type 1} (𝓤 : URA M) (H : Heap 𝓤) (A : Atoms 𝓤) (W : Given 𝓤 H A) (mem : Memory → SProp 𝓤) (run : Routine → Fun 𝓤) where
   parent-of-walks : (C : Calls 𝓤 H) (Λ : Loops 𝓤 H) → FmC 𝓤 H (W .laws) C → Triple 𝓤 (C #parents·view) (View 𝓤 H A mem run) → Triple 𝓤 (C #parents·get) (Get 𝓤 H A mem run)
       → Walks 𝓤 H A parent-of.ended stayed (WpFn 𝓤 H C Λ code.function) (parent-of.clauses 𝓤 H A mem run)
   parent-of-walks C Λ fm known-view known-get = walked 𝓤 H A parent-of.ended stayed (parent-of.clauses 𝓤 H A mem run) (WpFn 𝓤 H C Λ code.function)
       (λ κs. (slice-vals, (uint-vals w64, (uint-vals w64, (uint-vals w32, tt))))) (λ κs. (shr-slice-tells (named 0) (κs .0) u8, (uint-tells w64, (uint-tells w64, (uint-tells w32, tt)))))
-      (λ κs qs bounds a g are. needs 𝓤 (Rising wordsTable (now (a .0)) (a .1 .0) (a .1 .1 .0)) _ (λ table.
+      (λ κs qs bounds a g are. needs 𝓤 (Asks (a .0) (a .1 .0) (a .1 .1 .0)) _ (λ table.
       walk 𝓤 H A W mem run (κs .0) (qs .0) (a .0) (a .1 .0) (a .1 .1 .0) (a .1 .1 .1 .0) (are .1 .0 .1) (are .1 .1 .0 .1) (are .1 .1 .1 .0 .1) table C Λ fm known-view known-get (are .0)))
 
 parent-of-meets : {M : Type 1} (𝓤 : URA M) (H : Heap 𝓤) (A : Atoms 𝓤) (W : Given 𝓤 H A) (mem : Memory → SProp 𝓤) (run : Routine → Fun 𝓤) (𝓣 : Tables 𝓤 H)

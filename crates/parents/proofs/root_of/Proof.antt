@@ -1,16 +1,17 @@
 -- `root_of` meets its contract. The invariant: `links` links lead to `at`, past no root. The measure is what is left of 1,024 links.
 use borrow.Author.Needs.{needs}
-use Prim.Native.Nat.{_-_}
+use native.Mathlib.Omega.{arith}
+use Prim.Native.Nat.{_-_, _≤_}
 use Rattle.book.specs.Book.{wordsFrom}
 use Rattle.parents.proofs.Climb.{Climbed, climbed-start, climbed-more, climbed-root, climbed-absent, climbed-full}
 use Rattle.parents.proofs.root_of.Statement.{statement}
 use Rattle.parents.proofs.root_of.Tie as tie
 
 abbrev Inv-loop : tie.InvT-loop
-Inv-loop book start count id at₀ links₀ at links = Climbed (wordsFrom book count start) id at links
+Inv-loop book start count id at₀ near₀ links₀ at near links = (near ≤ count) × Climbed (wordsFrom book count start) id at links
 
 abbrev μ-loop : tie.MeasureT-loop
-μ-loop book start count id at₀ links₀ at links = 1024 - links
+μ-loop book start count id at₀ near₀ links₀ at near links = 1024 - links
 
 pub root-of-spec : {M : Type 1} → statement M
 root-of-spec =
@@ -18,13 +19,13 @@ root-of-spec =
     (tie.spec
     Inv-loop
     μ-loop
-    (λ c. climbed-start _ _)
+    (λ c. (omega arith, climbed-start _ _))
     (λ c κs. search needs)
     (λ c. search needs)
+    (λ c. search needs)
+    (λ c. search climbed-absent)
     (λ c. search climbed-root)
     (λ c. search climbed-full)
     (λ c. search needs)
     (λ c. search needs)
-    (λ c. search climbed-more)
-    (λ c. search needs)
-    (λ c. search climbed-absent))
+    (λ c. (omega arith, search climbed-more)))

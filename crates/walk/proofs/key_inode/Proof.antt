@@ -1,14 +1,23 @@
--- The head lies within the book.
-use mathlib.Core.Path.{ap}
-use Rattle.book.specs.declared.KeyHead.{KeyHead}
+-- The inode is the word at byte 8 of the head, which lies within the book.
+use mathlib.Core.Path.{_∙_}
+use denote.Ref.{now}
+use Rattle.book.specs.Book.{keyHead}
+use Rattle.walk.proofs.Keys.{head-word}
 use Rattle.walk.proofs.Gather.{at-end}
 use native.Mathlib.Omega.{arith}
 use Rattle.walk.proofs.key_inode.Statement.{statement}
 use Rattle.walk.proofs.key_inode.Tie as tie
 
+returns : tie.Need-returns
+unfolding keyHead
+returns c =
+    let a = c .before .before .args in
+    c .be64 .ensures ∙ head-word (now (a .book)) (λ j. c .before .shared-slice-known .given j .fits) (a .p) 8 8
+
 pub key-inode-spec : {M : Type 1} → statement M
 key-inode-spec =
     tie.close
     (tie.spec
+    (λ c. omega (arith, at-end (c .before .pre), c .before .pre .inside, c .before .pre .small))
     (λ c κs. omega (arith, at-end (c .before .pre), c .before .pre .inside, c .before .pre .small))
-    (λ c. ap (λ (h : KeyHead). h .inode) (c .key-head .ensures)))
+    returns)
