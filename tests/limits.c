@@ -307,11 +307,32 @@ static void states(void) {
         unavailable("subvolumes", ids[i]);
 }
 
+/* Three keys for one deleted subvolume and four live snapshots of it: twelve findings, of which some do not fit. */
+static void deleted(void) {
+    header(0, 7, 0, 0);
+    for (int i = 0; i < 3; i++)
+        subvolume(5, 0x3c6b2d4c);
+    for (uint64_t id = 4; id > 0; id--) {
+        key(9, 22, 60, 10 * id);
+        le32(2); /* flags */
+        end += 12;
+        le32(5); /* subvolume */
+        end += 36;
+        le32(0x757c47a2); /* live */
+    }
+    judge("a deleted subvolume", end, 12 * 17, 14);
+    judge("a deleted subvolume", end, 12 * 17 - 1, 14);
+    judge("a deleted subvolume", end, 6 * 17, 14);
+    judge("a deleted subvolume", end, 2 * 17, 14);
+    judge("a deleted subvolume", end, 0, 14);
+}
+
 int main(void) {
     lengths();
     areas();
     refusals();
     chains();
     states();
+    deleted();
     return 0;
 }
