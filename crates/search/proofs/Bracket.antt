@@ -1,9 +1,9 @@
 -- The invariant of a binary search among the first n values of a function that does not fall, and its steps.
-use Prim.Native.Nat.{ℕ, zero, suc, _+_, _≤_, _<_, zero-le}
+use Prim.Native.Nat.{ℕ, zero, suc, _+_, _-_, _/_, _≤_, _<_, zero-le}
 use mathlib.Core.Path.{_≡_}
 use mathlib.Core.Logic.{_⊎_, inl, inr}
 use native.Mathlib.Decide.{decLe}
-use native.Mathlib.Nat.{lt-of-not-le, le-refl, le-trans, lt-trans, lt-of-le-of-lt, not-suc-le-zero, le-of-suc-le-suc, eq-or-lt-of-le}
+use native.Mathlib.Nat.{zero-add, lt-of-not-le, le-refl, le-trans, lt-trans, lt-of-le-of-lt, not-suc-le-zero, le-of-suc-le-suc, eq-or-lt-of-le}
 use native.Mathlib.Omega.{arith}
 use Rattle.search.specs.Bound.{LowerBound}
 pub use Rattle.search.specs.Bound.{Bracket}
@@ -50,6 +50,41 @@ bracket-closed b met = let i = b .inside in record {
   below = b .below;
   above = λ k l h. b .above k (le-trans met l) h;
 }
+
+-- ---- a search that keeps a place and a size, so that a turn halves the size whichever way the comparison goes
+-- the place of x is from low to low + size
+abbrev pub Sized : (ℕ → ℕ) → ℕ → ℕ → ℕ → ℕ → Type 0
+Sized f n x low size = Bracket f n x low (low + size)
+
+-- before the first turn
+pub sized-all : (f : ℕ → ℕ) (n x : ℕ) → Sized f n x 0 n
+sized-all f n x = rw (zero-add n) (bracket-all f n x)
+
+-- where a turn compares
+abbrev pub middle : ℕ → ℕ → ℕ
+middle low size = low + (size - 1) / 2
+
+-- a turn: the value there is below x, or it is not
+module _ (f : ℕ → ℕ) (n x low size next : ℕ) (order : NotFalling f n) (b : Sized f n x low size) (some : 0 < size) where
+  pub sized-up : f (middle low size) < x → next ≡ middle low size + 1 → Sized f n x next (size / 2)
+  sized-up less e = let i = b .inside in record {
+    ordered = omega arith;
+    inside = omega arith;
+    below = λ k l. lt-of-le-of-lt (order k (middle low size) (omega arith) (omega arith)) less;
+    above = λ k l h. b .above k (omega arith) h;
+  }
+
+  pub sized-down : x ≤ f (middle low size) → next ≡ low → Sized f n x next (size / 2)
+  sized-down more e = let i = b .inside in record {
+    ordered = omega arith;
+    inside = omega arith;
+    below = λ k l. b .below k (omega arith);
+    above = λ k l h. le-trans more (order (middle low size) k (omega arith) h);
+  }
+
+-- after the last turn
+pub sized-closed : {f : ℕ → ℕ} {n x low size : ℕ} → Sized f n x low size → size ≤ 0 → LowerBound f n x low
+sized-closed b none = bracket-closed b (omega arith)
 
 -- what rises from each place to the next rises from each place to every later one
 pub rises : (f : ℕ → ℕ) (n : ℕ) → ((i : ℕ) → suc i < n → f i < f (suc i)) → (i j : ℕ) → i < j → j < n → f i < f j
