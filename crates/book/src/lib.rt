@@ -482,24 +482,23 @@ pub fn scan(book: &[u8]) -> Scanned
 }
 
 // The place of `x` among the `count` entries of two 32-bit words from byte `start` on, whose first words rise: how many of these are below it.
-// It is in the window `w`.
+// It is in the window `w`. Each turn halves the size, and tries for equality too: so the choice compiles to moves, where one test makes a branch
+// that can't be predicted.
 fn bound_within(book: &[u8], start: usize, count: usize, w: Window, x: u32) -> usize
     requires { ⌜ Rising wordsTable (now book) start count ⌝ }
     requires { ⌜ Bracket (firstAt wordsTable (now book) start) count x (w .low) (w .high) ⌝ }
     ensures { λ r. ⌜ LowerBound (firstAt wordsTable (now (book .entry)) start) count x r ⌝ }
 {
-    let mut low = w.low;
-    let mut high = w.high;
-    while low < high {
-        let mid = low + (high - low) / 2;
-        let at = start + mid * 8;
-        if bits::be32(book, at) < x {
-            low = mid + 1;
-        } else {
-            high = mid;
-        }
+    let mut base = w.low;
+    let mut size = w.high - w.low;
+    while 0 < size {
+        let mid = base + (size - 1) / 2;
+        let first = bits::be32(book, start + mid * 8);
+        let past = if first < x { mid + 1 } else { base };
+        base = if first == x { mid } else { past };
+        size /= 2;
     }
-    low
+    base
 }
 
 // A window with the place of `x`, which is not before `from`: entries from there on are tried, by steps that double.
@@ -600,23 +599,21 @@ pub fn find_word_near(book: &[u8], start: usize, count: usize, near: usize, id: 
     WordAt { at, word }
 }
 
-// How many of the `count` entries of a table whose first field has 64 bits have one below `x`, where these rise.
+// How many of the `count` entries of a table whose first field has 64 bits have one below `x`, where these rise. A turn is that of `bound_within`.
 fn lower_bound64(book: &[u8], t: Table, start: usize, count: usize, x: u64) -> usize
     requires { ⌜ (t .first ≡ 64) × (8 ≤ t .size) × Rising t (now book) start count ⌝ }
     ensures { λ r. ⌜ LowerBound (firstAt t (now (book .entry)) start) count x r ⌝ }
 {
-    let mut low = 0;
-    let mut high = count;
-    while low < high {
-        let mid = low + (high - low) / 2;
-        let at = start + mid * t.size;
-        if bits::be64(book, at) < x {
-            low = mid + 1;
-        } else {
-            high = mid;
-        }
+    let mut base = 0;
+    let mut size = count;
+    while 0 < size {
+        let mid = base + (size - 1) / 2;
+        let first = bits::be64(book, start + mid * t.size);
+        let past = if first < x { mid + 1 } else { base };
+        base = if first == x { mid } else { past };
+        size /= 2;
     }
-    low
+    base
 }
 
 // The generation that a gens table has for a bucket.

@@ -51,6 +51,23 @@ bracket-closed b met = let i = b .inside in record {
   above = λ k l h. b .above k (le-trans met l) h;
 }
 
+-- what rises from each place to the next rises from each place to every later one
+pub rises : (f : ℕ → ℕ) (n : ℕ) → ((i : ℕ) → suc i < n → f i < f (suc i)) → (i j : ℕ) → i < j → j < n → f i < f j
+rises f n up i zero l m = absurd (not-suc-le-zero l)
+rises f n up i (suc j) l m = step (eq-or-lt-of-le (le-of-suc-le-suc l)) (λ less. rises f n up i j less (omega arith))
+  where
+    step : (i ≡ j) ⊎ (i < j) → (i < j → f i < f j) → f i < f (suc j)
+    step (inl e) far = rw e (up j m)
+    step (inr less) far = lt-trans (far less) (up j m)
+
+-- what rises does not fall
+pub rising-order : (f : ℕ → ℕ) (n : ℕ) → ((i j : ℕ) → i < j → j < n → f i < f j) → NotFalling f n
+rising-order f n up i j l m = step (eq-or-lt-of-le l)
+  where
+    step : (i ≡ j) ⊎ (i < j) → f i ≤ f j
+    step (inl e) = rw e (le-refl (f j))
+    step (inr less) = let h = up i j less m in omega arith
+
 -- ---- a search that keeps a place and a size, so that a turn halves the size whichever way the comparison goes
 -- the place of x is from low to low + size
 abbrev pub Sized : (ℕ → ℕ) → ℕ → ℕ → ℕ → ℕ → Type 0
@@ -59,6 +76,9 @@ Sized f n x low size = Bracket f n x low (low + size)
 -- before the first turn
 pub sized-all : (f : ℕ → ℕ) (n x : ℕ) → Sized f n x 0 n
 sized-all f n x = rw (zero-add n) (bracket-all f n x)
+
+pub sized-window : {f : ℕ → ℕ} {n x low high : ℕ} → Bracket f n x low high → Sized f n x low (high - low)
+sized-window {low = low} {high = high} b = let o = b .ordered in let e : low + (high - low) ≡ high = omega arith in rw e b
 
 -- where a turn compares
 abbrev pub middle : ℕ → ℕ → ℕ
@@ -82,23 +102,16 @@ module _ (f : ℕ → ℕ) (n x low size next : ℕ) (order : NotFalling f n) (b
     above = λ k l h. le-trans more (order (middle low size) k (omega arith) h);
   }
 
+-- a turn where f rises, and the value there is x
+pub sized-at : {f : ℕ → ℕ} {n x low size next : ℕ} → ((i j : ℕ) → i < j → j < n → f i < f j) → Sized f n x low size → 0 < size →
+    f (middle low size) ≡ x → next ≡ middle low size → Sized f n x next (size / 2)
+sized-at {f} {n} {x} {low} {size} {next} up b some same e = let i = b .inside in record {
+  ordered = omega arith;
+  inside = omega arith;
+  below = λ k l. omega (arith, up k (middle low size) (omega arith) (omega arith));
+  above = λ k l h. omega (arith, rising-order f n up (middle low size) k (omega arith) h);
+}
+
 -- after the last turn
 pub sized-closed : {f : ℕ → ℕ} {n x low size : ℕ} → Sized f n x low size → size ≤ 0 → LowerBound f n x low
 sized-closed b none = bracket-closed b (omega arith)
-
--- what rises from each place to the next rises from each place to every later one
-pub rises : (f : ℕ → ℕ) (n : ℕ) → ((i : ℕ) → suc i < n → f i < f (suc i)) → (i j : ℕ) → i < j → j < n → f i < f j
-rises f n up i zero l m = absurd (not-suc-le-zero l)
-rises f n up i (suc j) l m = step (eq-or-lt-of-le (le-of-suc-le-suc l)) (λ less. rises f n up i j less (omega arith))
-  where
-    step : (i ≡ j) ⊎ (i < j) → (i < j → f i < f j) → f i < f (suc j)
-    step (inl e) far = rw e (up j m)
-    step (inr less) far = lt-trans (far less) (up j m)
-
--- what rises does not fall
-pub rising-order : (f : ℕ → ℕ) (n : ℕ) → ((i j : ℕ) → i < j → j < n → f i < f j) → NotFalling f n
-rising-order f n up i j l m = step (eq-or-lt-of-le l)
-  where
-    step : (i ≡ j) ⊎ (i < j) → f i ≤ f j
-    step (inl e) = rw e (le-refl (f j))
-    step (inr less) = let h = up i j less m in omega arith

@@ -1,8 +1,8 @@
--- `book::bound_within` meets its contract: low and high bracket the place of x, and each turn narrows them.
-use Prim.Native.Nat.{ℕ, _+_, _-_, _/_}
-use mathlib.Core.Path.{_≡_}
+-- `book::bound_within` meets its contract: the place of x is from base to base + size, and each turn halves the size.
+use mathlib.Core.Path.{_≡_, sym, _∙_}
+use mathlib.Core.Logic.{⊎-elim}
 use denote.Ref.{now}
-use Rattle.search.proofs.Bracket.{Bracket, bracket-up, bracket-down, bracket-closed}
+use Rattle.search.proofs.Bracket.{Sized, middle, sized-window, sized-up, sized-down, sized-at, sized-closed}
 use Rattle.book.specs.Book.{wordsTable}
 use Rattle.book.specs.Walk.{firstAt}
 use Rattle.book.proofs.Tables.{word-first, rising-first}
@@ -12,30 +12,30 @@ use Rattle.book.proofs.bound_within.Statement.{statement}
 use Rattle.book.proofs.bound_within.Tie as tie
 
 abbrev Inv-loop : tie.InvT-loop
-Inv-loop book start count x low₀ high₀ low high = Bracket (firstAt wordsTable book start) count x low high
+Inv-loop book start count x base₀ size₀ base size = Sized (firstAt wordsTable book start) count x base size
 
 abbrev μ-loop : tie.MeasureT-loop
-μ-loop book start count x low₀ high₀ low high = high - low
+μ-loop book start count x base₀ size₀ base size = size
 
--- the middle, and the first field there
-abbrev mid : tie.After-be32 Inv-loop μ-loop → ℕ
-mid c = let l = c .before .before .loop in l .low + (l .high - l .low) / 2
-
-here : (c : tie.After-be32 Inv-loop μ-loop) → let a = c .before .before .before .before .args in
-    c .be32 .result ≡ firstAt wordsTable (now (a .book)) (a .start) (mid c)
-here c = word-first _ (λ j. c .before .before .before .shared-slice-known .given j .fits) _ (mid c) (c .be32 .ensures)
+-- the first field in the middle
+here : (c : tie.After-be32 Inv-loop μ-loop) → let l = c .before .before in let a = l .before .before .before .args in
+    c .be32 .result ≡ firstAt wordsTable (now (a .book)) (a .start) (middle (l .loop .base) (l .loop .size))
+here c =
+    let l = c .before .before in
+    word-first _ (λ j. l .before .before .shared-slice-known .given j .fits) _ (middle (l .loop .base) (l .loop .size)) (c .be32 .ensures)
 
 loop-again : tie.Need-loop-again Inv-loop μ-loop
 loop-again c =
-    let r = c .before in
+    let r = c .before .before in
     let l = r .before .before in
-    bracket-up _ _ _ _ _ (mid r) (rising-first (l .before .before .pre .0)) (l .loop .inv) (omega arith) (omega arith) (rw (← here r) (c .if1 .taken))
-
-loop-again-2 : tie.Need-loop-again-2 Inv-loop μ-loop
-loop-again-2 c =
-    let r = c .before in
-    let l = r .before .before in
-    bracket-down _ _ _ _ _ (mid r) (rising-first (l .before .before .pre .0)) (l .loop .inv) (omega arith) (omega arith) (rw (← here r) (c .if1 .left))
+    let up = l .before .before .before .pre .0 in
+    ⊎-elim
+    (λ t. sized-at (up .rises) (l .loop .inv) (omega arith) (sym (here r) ∙ t .0 .taken) (t .1))
+    (λ t. ⊎-elim
+    (λ u. sized-up _ _ _ _ _ _ (rising-first up) (l .loop .inv) (omega arith) (rw (← here r) (u .0 .taken)) (t .1 ∙ u .1))
+    (λ u. sized-down _ _ _ _ _ _ (rising-first up) (l .loop .inv) (omega arith) (rw (← here r) (u .0 .left)) (t .1 ∙ u .1))
+    (c .before .if1 .came))
+    (c .if2 .came)
 
 pub bound-within-spec : {M : Type 1} → statement M
 bound-within-spec =
@@ -43,7 +43,8 @@ bound-within-spec =
     (tie.spec
     Inv-loop
     μ-loop
-    (λ c. c .before .pre .1)
+    (λ c. omega (arith, c .before .before .pre .1 .ordered))
+    (λ c. sized-window (c .before .before .pre .1))
     (λ c. search needs)
     (λ c. search needs)
     (λ c. search needs)
@@ -52,6 +53,4 @@ bound-within-spec =
     (λ c. search needs)
     (λ c. search needs)
     loop-again
-    (λ c. search needs)
-    loop-again-2
-    (λ c. bracket-closed (c .before .loop .inv) (c .loop-test .left)))
+    (λ c. sized-closed (c .before .loop .inv) (c .loop-test .left)))

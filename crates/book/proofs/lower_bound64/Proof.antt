@@ -1,8 +1,10 @@
--- `book::lower_bound64` meets its contract: low and high bracket the place of x, and each turn narrows them.
-use Prim.Native.Nat.{ℕ, _+_, _-_, _*_, _/_}
+-- `book::lower_bound64` meets its contract: the place of x is from base to base + size, and each turn halves the size.
+use Prim.Native.Nat.{_+_, _*_, _≤_}
 use mathlib.Core.Path.{_≡_, sym, _∙_}
+use mathlib.Core.Logic.{⊎-elim}
 use denote.Ref.{now}
-use Rattle.search.proofs.Bracket.{Bracket, bracket-all, bracket-up, bracket-down, bracket-closed}
+use lib.ListN.{length}
+use Rattle.search.proofs.Bracket.{Sized, middle, sized-all, sized-up, sized-down, sized-at, sized-closed}
 use Rattle.book.specs.Walk.{firstAt}
 use Rattle.book.proofs.Tables.{first-be, rising-first, entry-inside}
 use borrow.Author.Needs.{needs}
@@ -11,32 +13,37 @@ use Rattle.book.proofs.lower_bound64.Statement.{statement}
 use Rattle.book.proofs.lower_bound64.Tie as tie
 
 abbrev Inv-loop : tie.InvT-loop
-Inv-loop book t start count x low₀ high₀ low high = Bracket (firstAt t book start) count x low high
+Inv-loop book t start count x base₀ size₀ base size = Sized (firstAt t book start) count x base size
 
 abbrev μ-loop : tie.MeasureT-loop
-μ-loop book t start count x low₀ high₀ low high = high - low
+μ-loop book t start count x base₀ size₀ base size = size
 
--- the middle, and the first field there
-abbrev mid : tie.After-be64 Inv-loop μ-loop → ℕ
-mid c = let l = c .before .before .before .loop in l .low + (l .high - l .low) / 2
-
-here : (c : tie.After-be64 Inv-loop μ-loop) → let a = c .before .before .before .before .before .args in
-    c .be64 .result ≡ firstAt (a .t) (now (a .book)) (a .start) (mid c)
+-- the first field in the middle
+here : (c : tie.After-be64 Inv-loop μ-loop) → let l = c .before .before .before in let a = l .before .before .args in
+    c .be64 .result ≡ firstAt (a .t) (now (a .book)) (a .start) (middle (l .loop .base) (l .loop .size))
 here c =
-    let a = c .before .before .before .before .before .args in
-    c .be64 .ensures ∙ sym (first-be (a .t) (now (a .book)) (λ j. c .before .before .before .before .shared-slice-known .given j .fits) (a .start + mid c * a .t .size) 8 (c .before .before .before .before .before .pre .0))
+    let l = c .before .before .before in
+    let a = l .before .before .args in
+    c .be64 .ensures ∙ sym (first-be (a .t) (now (a .book)) (λ j. l .before .shared-slice-known .given j .fits)
+    (a .start + middle (l .loop .base) (l .loop .size) * a .t .size) 8 (l .before .before .pre .0))
 
 loop-again : tie.Need-loop-again Inv-loop μ-loop
 loop-again c =
-    let r = c .before in
+    let r = c .before .before in
     let l = r .before .before .before in
-    bracket-up _ _ _ _ _ (mid r) (rising-first (l .before .before .pre .2)) (l .loop .inv) (omega arith) (omega arith) (rw (← here r) (c .if1 .taken))
+    let up = l .before .before .pre .2 in
+    ⊎-elim
+    (λ t. sized-at (up .rises) (l .loop .inv) (omega arith) (sym (here r) ∙ t .0 .taken) (t .1))
+    (λ t. ⊎-elim
+    (λ u. sized-up _ _ _ _ _ _ (rising-first up) (l .loop .inv) (omega arith) (rw (← here r) (u .0 .taken)) (t .1 ∙ u .1))
+    (λ u. sized-down _ _ _ _ _ _ (rising-first up) (l .loop .inv) (omega arith) (rw (← here r) (u .0 .left)) (t .1 ∙ u .1))
+    (c .before .if1 .came))
+    (c .if2 .came)
 
-loop-again-2 : tie.Need-loop-again-2 Inv-loop μ-loop
-loop-again-2 c =
-    let r = c .before in
-    let l = r .before .before .before in
-    bracket-down _ _ _ _ _ (mid r) (rising-first (l .before .before .pre .2)) (l .loop .inv) (omega arith) (omega arith) (rw (← here r) (c .if1 .left))
+-- the entry in the middle lies within the bytes
+inside : (c : tie.In-loop Inv-loop μ-loop) → let l = c .before in let a = l .before .before .args in
+    a .start + middle (l .loop .base) (l .loop .size) * a .t .size + a .t .size ≤ length (now (a .book))
+inside c = let l = c .before in entry-inside (l .before .before .pre .2) (middle (l .loop .base) (l .loop .size)) (omega arith)
 
 pub lower-bound64-spec : {M : Type 1} → statement M
 lower-bound64-spec =
@@ -44,15 +51,13 @@ lower-bound64-spec =
     (tie.spec
     Inv-loop
     μ-loop
-    (λ c. bracket-all _ _ _)
+    (λ c. sized-all _ _ _)
     (λ c. search needs)
     (λ c. search needs)
-    (λ c. omega (arith, entry-inside (c .before .before .before .before .pre .2) (c .before .before .loop .low + (c .before .before .loop .high - c .before .before .loop .low) / 2) (omega arith)))
-    (λ c. omega (arith, entry-inside (c .before .before .before .before .pre .2) (c .before .before .loop .low + (c .before .before .loop .high - c .before .before .loop .low) / 2) (omega arith)))
-    (λ c κs. omega (arith, entry-inside (c .before .before .before .before .pre .2) (c .before .before .loop .low + (c .before .before .loop .high - c .before .before .loop .low) / 2) (omega arith)))
+    (λ c. omega (arith, inside (c .before)))
+    (λ c. omega (arith, inside (c .before)))
+    (λ c κs. omega (arith, inside (c .before)))
     (λ c. search needs)
     (λ c. search needs)
     loop-again
-    (λ c. search needs)
-    loop-again-2
-    (λ c. bracket-closed (c .before .loop .inv) (c .loop-test .left)))
+    (λ c. sized-closed (c .before .loop .inv) (c .loop-test .left)))
