@@ -8,7 +8,7 @@ mod mixed;
 mod random;
 mod runs;
 mod short;
-mod values;
+pub mod values;
 mod world;
 
 use crate::layout::{Book, Key};

@@ -1,4 +1,5 @@
 //! The published rules over a book: called in document 01's order over maps made from the book, their detail texts read back into numbers.
+use crate::books::values::{FREESPACE, SNAPSHOTS, TREES, T_SNAPSHOT, T_TREE};
 use crate::layout::Book;
 use crate::texts;
 use reference::bkey::{Bkey, Bpos};
@@ -6,10 +7,6 @@ use reference::check::Report;
 use reference::superblock::{Member, Version};
 use reference::{Published, Rules, Trees};
 use std::collections::{BTreeMap, BTreeSet};
-
-const SNAPSHOTS: u8 = 9;
-const FREESPACE: u8 = 11;
-const SNAPSHOT_TREES: u8 = 15;
 
 #[derive(Clone, Copy, Debug, PartialEq, Eq)]
 pub struct Finding {
@@ -52,7 +49,7 @@ impl Maps {
             .collect();
         let mut trees = Trees::new();
         if book.mark {
-            trees.insert(SNAPSHOT_TREES, Vec::new());
+            trees.insert(TREES, Vec::new());
         }
         for (btree, key) in &keys {
             trees.entry(*btree).or_default().push(key.clone());
@@ -102,7 +99,7 @@ impl Maps {
         let mut snapshot = vec![0; 40];
         snapshot[20..24].copy_from_slice(&1u32.to_le_bytes());
         snapshot[24..28].copy_from_slice(&u32::MAX.to_le_bytes());
-        let trees = Trees::from([(SNAPSHOTS, vec![key(22, u64::from(id), snapshot)]), (SNAPSHOT_TREES, vec![key(31, 1, vec![0; 8])])]);
+        let trees = Trees::from([(SNAPSHOTS, vec![key(T_SNAPSHOT, u64::from(id), snapshot)]), (TREES, vec![key(T_TREE, 1, vec![0; 8])])]);
         let mut r = Report::default();
         Published::snapshot_links(&trees, &self.parents, &self.subvolumes, &mut r);
         let text = |kind| r.problems.iter().find(|p| p.kind == kind).map(|p| p.detail.as_str());

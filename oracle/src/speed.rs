@@ -1,4 +1,5 @@
 //! Times both programs on the same books in the same run: Dockwrench whole, from bytes to findings; the published rules alone, over maps made before.
+use crate::books::values::*;
 use crate::books::{self, Mode};
 use crate::layout::{Book, Key, HEADER_BYTES, KEY_HEAD_BYTES, LONGEST_BOOK};
 use crate::library;
@@ -6,17 +7,6 @@ use crate::published::Maps;
 use std::hint::black_box;
 use std::time::{Duration, Instant};
 
-const SUBVOLUMES: u8 = 8;
-const SNAPSHOTS: u8 = 9;
-const FREESPACE: u8 = 11;
-const SNAPSHOT_TREES: u8 = 15;
-const SUBVOLUME_CHILDREN: u8 = 19;
-const KEY_SUBVOLUME: u8 = 21;
-const KEY_SNAPSHOT: u8 = 22;
-const KEY_SET: u8 = 25;
-const KEY_SNAPSHOT_TREE: u8 = 31;
-const SUBVOL_DELETED: u32 = 0x3c6b_2d4c;
-const SNAP_LIVE: u32 = 0x757c_47a2;
 /// Before 1.39, where a state is not asked for.
 const VERSION: u16 = 1062;
 
@@ -34,7 +24,7 @@ pub fn rows() -> Vec<(&'static str, Book)> {
         ("7,000 deleted subvolumes", deleted()),
         ("20,000 subvolume children", children()),
         ("65,535 parents with one key", parents()),
-        ("a smallest book (one key)", Book { keys: vec![key(FREESPACE, KEY_SET, 0, &[])], ..empty() }),
+        ("a smallest book (one key)", Book { keys: vec![key(FREESPACE, T_SET, 0, 0, Vec::new())], ..empty() }),
     ]
 }
 
@@ -42,22 +32,10 @@ fn empty() -> Book {
     Book { mark: true, version: VERSION, ..Book::default() }
 }
 
-/// A key at offset `offset`, its value these words.
-fn key(btree: u8, key_type: u8, offset: u64, words: &[u32]) -> Key {
-    Key { btree, key_type, offset, value: words.iter().flat_map(|w| w.to_le_bytes()).collect(), ..Key::default() }
-}
-
-/// Words of a value, all zero but for these.
-fn words<const N: usize>(set: &[(usize, u32)]) -> [u32; N] {
-    let mut all = [0; N];
-    set.iter().for_each(|&(at, word)| all[at] = word);
-    all
-}
-
 /// Runs of four buckets each that hold all buckets, so that there is nothing to find.
 fn free_runs() -> Book {
     let count = 37_000;
-    let run = |i: u64| Key { size: 4, ..key(FREESPACE, KEY_SET, 4 * (i * 7_919 % count + 1), &[]) };
+    let run = |i: u64| Key { size: 4, ..key(FREESPACE, T_SET, 0, 4 * (i * 7_919 % count + 1), Vec::new()) };
     Book { buckets: 4 * count, keys: (0..count).map(run).collect(), ..empty() }
 }
 
@@ -66,14 +44,15 @@ fn snapshot(root: u32, depth: u32, length: u32, tree: u32) -> Key {
     let id = root + depth;
     let child = if depth + 1 < length { id + 1 } else { 0 };
     let (parent, skip) = if depth == 0 { (0, 0) } else { (id - 1, root) };
-    key(SNAPSHOTS, KEY_SNAPSHOT, u64::from(id), &[0, parent, child, 0, 0, tree, depth, skip, skip, skip])
+    let words = Snapshot { parent, children: [child, 0], tree, depth, skip: [skip; 3], ..Snapshot::default() };
+    key(SNAPSHOTS, T_SNAPSHOT, 0, u64::from(id), words.value(40))
 }
 
 fn chains() -> Book {
     let (mut book, length) = (empty(), 1_000);
     for tree in 1..=13 {
         let root = 1 + (tree - 1) * length;
-        book.keys.push(key(SNAPSHOT_TREES, KEY_SNAPSHOT_TREE, u64::from(tree), &[1, root]));
+        book.keys.push(key(TREES, T_TREE, 0, u64::from(tree), tree_value(1, root, 8)));
         for depth in 0..length {
             book.parents.push((root + depth, if depth == 0 { 0 } else { root + depth - 1 }));
             book.keys.push(snapshot(root, depth, length, tree));
@@ -91,7 +70,7 @@ fn foot() -> Book {
     book.subvolumes.push((1, u32::MAX));
     book.keys = vec![snapshot(1, links, links + 1, 1); 15_000];
     book.keys.push(snapshot(1, 0, links + 1, 1));
-    book.keys.push(key(SNAPSHOT_TREES, KEY_SNAPSHOT_TREE, 1, &[1, 1]));
+    book.keys.push(key(TREES, T_TREE, 0, 1, tree_value(1, 1, 8)));
     book
 }
 
@@ -114,7 +93,7 @@ pub fn mixed(bytes: usize) -> Book {
             key.offset = if key.offset < 1 << 31 { key.offset + 8 * index } else { key.offset };
             let size = KEY_HEAD_BYTES + key.value.len();
             if size > left {
-                sort(&mut book);
+                sort_tables(&mut book);
                 return book;
             }
             left -= size;
@@ -131,22 +110,15 @@ fn join(book: &mut Book, part: Book) {
     book.alloc.extend(part.alloc);
 }
 
-/// Puts the tables in order, each id once.
-fn sort(book: &mut Book) {
-    book.parents.sort();
-    book.parents.dedup_by_key(|e| e.0);
-    book.subvolumes.sort();
-    book.subvolumes.dedup_by_key(|e| e.0);
-    book.gens.sort();
-    book.gens.dedup_by_key(|e| e.0);
-    book.alloc.sort();
-    book.alloc.dedup_by_key(|e| e.0);
-}
-
 /// Deleted subvolumes, and 6,000 live snapshots that name others, so that there is nothing to find.
 fn deleted() -> Book {
-    let subvolume = |id: u64| key(SUBVOLUMES, KEY_SUBVOLUME, id, &words::<11>(&[(10, SUBVOL_DELETED)]));
-    let live = |id: u32| key(SNAPSHOTS, KEY_SNAPSHOT, u64::from(id), &words::<15>(&[(0, 2), (4, 100_000 + id), (14, SNAP_LIVE)]));
+    let [_, _, state] = SUBVOLUME_STATES;
+    let deleted = Subvolume { state, ..Subvolume::default() };
+    let subvolume = |id: u64| key(SUBVOLUMES, T_SUBVOLUME, 0, id, deleted.value(44));
+    let live = |id: u32| {
+        let words = Snapshot { flags: 2, subvolume: 100_000 + id, state: SNAPSHOT_STATES[0], ..Snapshot::default() };
+        key(SNAPSHOTS, T_SNAPSHOT, 0, u64::from(id), words.value(60))
+    };
     let mut keys: Vec<Key> = (2..7_002).map(subvolume).collect();
     keys.extend((1..=6_000).map(live));
     Book { mark: false, keys, ..empty() }
@@ -155,10 +127,13 @@ fn deleted() -> Book {
 /// 20,000 entries for 9,000 subvolumes, so that some are there twice; there is nothing to find. Both btrees are in order.
 fn children() -> Book {
     let parent = |child: u64| child % 97 + 1;
-    let subvolume = |child: u64| key(SUBVOLUMES, KEY_SUBVOLUME, child, &words::<6>(&[(1, child as u32), (5, parent(child) as u32)]));
+    let subvolume = |child: u64| {
+        let words = Subvolume { snapshot: child as u32, parent: parent(child) as u32, ..Subvolume::default() };
+        key(SUBVOLUMES, T_SUBVOLUME, 0, child, words.value(24))
+    };
     let entry = |i: u64| {
         let child = 1 + i % 9_000;
-        Key { inode: parent(child), ..key(SUBVOLUME_CHILDREN, KEY_SET, child, &[]) }
+        key(CHILDREN, T_SET, parent(child), child, Vec::new())
     };
     let mut entries: Vec<Key> = (0..20_000).map(entry).collect();
     entries.sort_by_key(|e| (e.inode, e.offset));
@@ -171,7 +146,7 @@ fn parents() -> Book {
     let count = u32::from(u16::MAX);
     let mut book = empty();
     book.parents = (1..=count).map(|id| (id, id - 1)).collect();
-    book.keys.push(key(SNAPSHOTS, KEY_SNAPSHOT, u64::from(count), &[0; 10]));
+    book.keys.push(key(SNAPSHOTS, T_SNAPSHOT, 0, u64::from(count), vec![0; 40]));
     book
 }
 
