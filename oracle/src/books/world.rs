@@ -55,7 +55,7 @@ impl World<'_> {
         }
         match self.r.below(8) {
             0 => self.r.place(8),
-            1 => usual + self.r.place(9),
+            1 => (usual + self.r.place(9)).min(LONGEST_VALUE),
             _ => (self.r.pick(read) + self.r.place(3)).saturating_sub(1).min(LONGEST_VALUE),
         }
     }
