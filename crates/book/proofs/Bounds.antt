@@ -1,5 +1,5 @@
 -- A refusal's number is at most 8, and its place at most 1,048,576: an entry or a key is looked at only where the one before it lies within the book.
-use Prim.Native.Nat.{ℕ, zero, suc, _+_, _*_, _≤_}
+use Prim.Native.Nat.{ℕ, zero, suc, _+_, _≤_}
 use mathlib.Core.Path.{_≡_, refl}
 use mathlib.Core.Bool.{Bool, true, false}
 use mathlib.Core.List.{List}

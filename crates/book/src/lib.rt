@@ -109,7 +109,8 @@ pub enum MaybeU32 {
     Absent,
 }
 
-// What a search from a place on finds: the place where it ended, and the word.
+// What a search from a place on finds: the word, and the place where it ended. Of the place only its bound is promised: it is a place to start the
+// next search from, and no answer depends on it.
 pub struct WordAt {
     pub at: usize,
     pub word: MaybeU32,

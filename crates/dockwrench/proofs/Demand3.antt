@@ -1,13 +1,13 @@
 -- Demand 3 on the call: where it answers 0 over a forest book, demand 3 holds of the findings that stand first in the buffer.
-use Prim.Native.Nat.{ℕ, _*_, _≤_, _<_}
+use Prim.Native.Nat.{ℕ, _*_, _≤_}
 use mathlib.Core.Bool.{Bool, true, false, cond}
-use mathlib.Core.List.{List, [], _∷_, _++_, map, append-assoc, List·Memᴰ·head, List·Memᴰ·tail}
-use mathlib.Core.Path.{_≡_, refl, sym, ap, ap₂, subst, _∙_}
+use mathlib.Core.List.{List, [], _∷_, _++_, map, List·Memᴰ·head, List·Memᴰ·tail}
+use mathlib.Core.Path.{_≡_, refl, sym, ap₂, subst}
 use native.Mathlib.Omega.{arith}
 use lib.ListN.{length, drop}
 use lib.Dec.{ltb}
 use borrow.Author.Tests.{ltb-false}
-use Rattle.findings.specs.Findings.{Finding, encode, bytesOf, encodeAll, put}
+use Rattle.findings.specs.Findings.{Finding, encode, bytesOf, encodeAll}
 use Rattle.findings.proofs.Meaning.{put-all}
 use Rattle.book.specs.Book.{Book}
 use Rattle.book.specs.Refusals.{Outcome, parse}
@@ -16,7 +16,6 @@ use Rattle.forest.specs.Forest.{ForestBook, forestKinds, Absent, Demand3}
 use Rattle.forest.proofs.Lists.{map-mem, mem-map}
 use Rattle.rules.specs.Rules.{findingsOf}
 use Rattle.rules.proofs.Demand3.{demand-3-of, Small, all-small}
-use Rattle.dockwrench.specs.declared.Checked.{Checked}
 use Rattle.dockwrench.specs.declared.Checked.the-variants as checked
 use Rattle.dockwrench.specs.Answers.{workShort, countIn, checkBook, checkOf, bookBuffer, bufferAfter}
 use Rattle.dockwrench.specs.Decode.{decode}

@@ -2,13 +2,13 @@
 use mathlib.Core.Path.{_≡_, refl, sym, ap, ap₂, _∙_}
 use mathlib.Core.Bool.{Bool, true, false, cond}
 use mathlib.Core.List.{List, [], _∷_, _++_, append-assoc, append-nil}
-use Prim.Native.Nat.{ℕ, zero, suc, _+_, _*_, _≤_, _<_}
+use Prim.Native.Nat.{ℕ, suc, _+_, _≤_, _<_}
 use native.Mathlib.Numerals.{add-one}
 use native.Mathlib.Omega.{arith}
-use lib.ListN.{length, drop, getD, length-append, drop-of-length-le}
+use lib.ListN.{length, drop, getD, drop-of-length-le}
 use lib.Seq.{drop-cons}
 use borrow.Author.Needs.{needs}
-use Rattle.findings.specs.Findings.{Finding, start, Found, Added, when, only, each, keep}
+use Rattle.findings.specs.Findings.{Finding, start, Found, Added, only, each, keep}
 use Rattle.findings.proofs.Laws.{none, begin, more, more-lent, added-more, added-lent, added-only, added-not, lent, part, back, found-length}
 
 -- ---- the walk
@@ -112,50 +112,6 @@ module _ {all : List Finding} {o o₁ : List ℕ} (at : ℕ → ℕ → List Fin
   pub turn-at-lent : {ys : List ℕ} (a n r : ℕ) → a ≡ start (length o₁) n → Begun all o (each at i (drop i xs)) n o₁ → Found (part o₁ a) (at i (getD xs i 0)) r ys
       → Begun all o (each at (i + 1) (drop (i + 1) xs)) (n + r) (back o₁ a ys)
   turn-at-lent a n r s b h = turn-lent a n r s b h (each-cons at i (drop-at xs i 0 within))
-
--- ---- how many findings at most
-
--- at most k findings
-pub record Few (fs : List Finding) (k : ℕ) : Type 0 where
-  pub few : length fs ≤ k
-
-pub few-none : {k : ℕ} → Few [] k
-few-none = record { few = omega arith }
-
-pub few-when : (t : Bool) (f : Finding) → Few (when t f) 1
-unfolding when
-few-when true f = record { few = omega arith }
-few-when false f = few-none
-
-pub few-only : (t : Bool) {fs : List Finding} {k : ℕ} → Few fs k → Few (only t fs) k
-unfolding only
-few-only true h = h
-few-only false h = few-none
-
-pub few-append : {fs gs : List Finding} {a b : ℕ} → Few fs a → Few gs b → Few (fs ++ gs) (a + b)
-few-append {fs} {gs} h k = record { few = omega (arith, length-append fs gs) }
-
--- where each item gives at most k: so many give all items, a walk up to index i, a walk at any place, and a rule
-module _ {A : Type 0} (at : ℕ → A → List Finding) (k : ℕ) (few : (i : ℕ) (x : A) → Few (at i x) k) where
-  pub few-each : (i : ℕ) (xs : List A) → Few (each at i xs) (length xs * k)
-  unfolding each
-  few-each i [] = few-none
-  few-each i (x ∷ xs) = record { few = omega (arith, few-append (few i x) (few-each (suc i) xs)) }
-
-  few-drop : (j i m : ℕ) (xs : List A) → m ≡ j + i → length (each at j xs) ≤ i * k + length (each at m (drop i xs))
-  unfolding each
-  few-drop j zero m xs h = let e : m ≡ j = omega arith in rw e (omega arith)
-  few-drop j (suc i) m [] h = omega arith
-  few-drop j (suc i) m (x ∷ xs) h = omega (arith, length-append (at j x) (each at (suc j) xs), few j x, few-drop (suc j) i m xs (omega arith))
-
-  pub few-at : (xs : List A) (i : ℕ) {o o′ : List ℕ} {n : ℕ} → Begun (each at 0 xs) o (each at i (drop i xs)) n o′ → n ≤ i * k
-  few-at xs i b = omega (arith, few-drop 0 i i xs (omega arith), ap length (b .whole), length-append (b .passed) (each at i (drop i xs)), b .found .count)
-
-  pub few-walk : (all : List A) {rest : List Finding} {o o′ : List ℕ} {n : ℕ} → Begun (each at 0 all) o rest n o′ → n ≤ length all * k
-  few-walk all {rest} b = omega (arith, few-each 0 all, ap length (b .whole), length-append (b .passed) rest, b .found .count)
-
-  pub few-found : (all : List A) {o o′ : List ℕ} {n : ℕ} → Found o (each at 0 all) n o′ → n ≤ length all * k
-  few-found all h = omega (arith, few-each 0 all, h .count)
 
 -- what answers the needs of a rule
 pub ruleset rule = (needs, begin, more, more-lent, added-more, added-lent, added-only, added-not, first, turn, turn-lent, turn-at, turn-at-lent, last, each-none, drop-past, found-length, begun-length)

@@ -1,26 +1,23 @@
 -- In a forest book each rule reports no forest kind exactly if its part of `Sound` holds.
 use Prim.Native.Nat.{ℕ}
-use mathlib.Core.Bool.{Bool, true, false, not, _&&_}
+use mathlib.Core.Bool.{Bool, true, false, not}
 use mathlib.Core.Logic.{_⊎_, inl, inr, _↔_}
-use mathlib.Core.List.{List, [], _∷_, _++_, List·Memᴰ·head, List·Memᴰ·tail, List·Memᴰ·cases-cons, Memᴰ·append-left, Memᴰ·append-right}
+use mathlib.Core.List.{List, _∷_, _++_, List·Memᴰ·head, List·Memᴰ·tail, List·Memᴰ·cases-cons}
 use mathlib.Core.Option.{Option, none, some, Option·some-injective}
 use mathlib.Core.Path.{_≡_, refl, ap, sym, subst, _∙_}
 use native.Mathlib.Omega.{arith}
-use lib.Dec.{eqb}
-use lib.ListN.{length}
 use borrow.Author.Tests.{eq-eqb, not-false}
-use Rattle.findings.specs.Findings.{Finding, finding, when, only, each, keep}
+use Rattle.findings.specs.Findings.{Finding, finding, when, only, each}
 use Rattle.findings.proofs.Walk.{each-keep}
 use Rattle.pairs.specs.Pairs.{has}
 use Rattle.book.specs.Maps.{lookup}
 use Rattle.book.specs.Book.{Bkey, Book, parentsOf}
 use Rattle.parents.specs.Roots.{rootOf, above}
-use Rattle.snapshots.specs.Words.{parentWord, childWords, subvolumeWord, treeWord, depthWord, skipWords, rootWord, idOf, holds}
+use Rattle.snapshots.specs.Words.{parentWord, childWords, subvolumeWord, treeWord, depthWord, skipWords, rootWord, holds}
 use Rattle.links.specs.Links.{treeMap, treeOfMap, isThe, isOther, masterFindings, treeFindings, namesRoot, wrongDepth, badChild, badSkip, rootFindings, backrefFindings, childFindings, skipFindings, linkFindings, snapshotLinks}
 use Rattle.forest.specs.Lists.{_∈_}
 use Rattle.forest.specs.Forest.{snapshots, ForestBook, Links, InChain, RootedRight, NamedBack, NamesChild, NamesChain, Sound, forestKinds, Absent}
 use Rattle.forest.proofs.Reading.{recordWords, id-same, all-snapshots, parents-read, trees-of-read, trees-read, trees-mem}
-use Rattle.forest.proofs.Lists.{mem-each}
 use Rattle.forest.proofs.Maps.{lookup-mem}
 use Rattle.forest.proofs.Roots.{linksUp, above-up}
 use Rattle.forest.proofs.Chains.{root-found, found-root, up-ancestor, ancestor-up}

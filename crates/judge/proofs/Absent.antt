@@ -1,9 +1,8 @@
 -- A rule finds nothing where a book has no key of its btrees.
 use Prim.Native.Nat.{ℕ, suc}
 use mathlib.Core.Path.{_≡_, refl, sym, ap, _∙_}
-use mathlib.Core.Bool.{Bool, true, false, cond, not, _&&_, _||_}
-use mathlib.Core.List.{List, [], _∷_, _++_, map}
-use lib.ListN.{length}
+use mathlib.Core.Bool.{Bool, true, false, not, _&&_, _||_}
+use mathlib.Core.List.{List, [], _∷_, map}
 use lib.Dec.{eqb, leb}
 use Rattle.findings.specs.Findings.{Finding, finding, when, only, each, keep}
 use Rattle.book.specs.Maps.{insertAll, collect, lookup}
@@ -14,9 +13,9 @@ use Rattle.subvolumes.specs.Subvolumes.{hasSubvolState, unavailable, subvolumeF
 use Rattle.deletions.specs.Snapshots.{hasSnapState, snapshotStateFindings, snapshotStates}
 use Rattle.snapshots.specs.Words.{word, holds, subvolumeWord, masterWord, rootWord, idOf}
 use Rattle.snapshots.specs.Flags.{flagIsWrong, flagFindings, snapshotSubvolFlags}
-use Rattle.snapshots.specs.Children.{hasFsParent, fsParents, missingEntry, wrongEntry, subvolumeChildren}
-use Rattle.links.specs.Links.{treeMap, treeFindings, linkFindings, snapshotLinks}
-use Rattle.buckets.specs.Gens.{isGens, gensOfKey, uncovered, bucketGensAgainstAlloc}
+use Rattle.snapshots.specs.Children.{hasFsParent, fsParents, wrongEntry, subvolumeChildren}
+use Rattle.links.specs.Links.{treeMap, linkFindings, snapshotLinks}
+use Rattle.buckets.specs.Gens.{isGens, gensOfKey, bucketGensAgainstAlloc}
 use Rattle.judge.specs.declared.Present.{Present}
 use Rattle.judge.specs.Present.{hasBtree, withBtree, presentWith, presentIn}
 use Rattle.judge.specs.Steps.{subvolumeRules, snapshotRules}

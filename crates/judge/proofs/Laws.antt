@@ -19,10 +19,7 @@ use Rattle.subvolumes.specs.Subvolumes.{subvolumeStates, snapshotClaims}
 use Rattle.deletions.specs.Snapshots.{snapshotStates}
 use Rattle.snapshots.specs.Flags.{snapshotSubvolFlags}
 use Rattle.snapshots.specs.Children.{subvolumeChildren}
-use Rattle.links.specs.Links.{snapshotLinks}
 use Rattle.rules.specs.Rules.{keyFindings, findingsOf}
-use Rattle.buckets.specs.Gens.{bucketGensAgainstAlloc}
-use Rattle.buckets.specs.FreeSpace.{freeSpace}
 use Rattle.walk.proofs.Keys.{keys-none}
 use Rattle.judge.specs.declared.Present.{Present}
 use Rattle.judge.specs.Present.{withBtree, presentWith}

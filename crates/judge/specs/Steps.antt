@@ -1,7 +1,7 @@
 -- What only contracts of private functions cite.
 use Prim.Native.Nat.{ℕ}
 use mathlib.Core.List.{List, _++_}
-use Rattle.findings.specs.Findings.{Finding, each}
+use Rattle.findings.specs.Findings.{Finding}
 use Rattle.book.specs.Book.{Bkey, Book}
 use Rattle.fields.specs.Device.{checkKeyDevice}
 use Rattle.fields.specs.Fields.{checkKeyFields}
@@ -13,7 +13,6 @@ use Rattle.snapshots.specs.Children.{subvolumeChildren}
 use Rattle.links.specs.Links.{snapshotLinks}
 use Rattle.buckets.specs.Gens.{bucketGensAgainstAlloc}
 use Rattle.buckets.specs.FreeSpace.{freeSpace}
-use Rattle.rules.specs.Rules.{keyFindings}
 
 -- the three rules on a key, by the device and the version
 unfoldable pub keyRules : ℕ → ℕ → ℕ → Bkey → List Finding

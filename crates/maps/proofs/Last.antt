@@ -158,10 +158,6 @@ module _ (w : List ℕ) (n : ℕ) (i : ℕ) (l : i < n) (small : (k : ℕ) → g
   unfolding numberIn
   number-at = first w n small i l
 
-  pub which-at : whichIn (getD (pairsOf w n) i 0) ≡ getD w (2 * i + 1) 0 / 2 ^ 32
-  unfolding whichIn
-  which-at = ap (λ (x : ℕ). x / 2 ^ 32) (second w n small i l)
-
   pub place-at : placeIn (getD (pairsOf w n) i 0) ≡ getD w (2 * i + 1) 0 % 2 ^ 32
   unfolding placeIn
   place-at = omega (arith, second w n small i l)

@@ -4,7 +4,6 @@ use denote.Ref.{now}
 use Rattle.book.proofs.Walk.{opened, parse-accepted, parse-refused}
 use Rattle.dockwrench.specs.Answers.{availabilityOf}
 use borrow.Author.Needs.{needs}
-use native.Mathlib.Omega.{arith}
 use Rattle.dockwrench.proofs.ask_available.Statement.{statement}
 use Rattle.dockwrench.proofs.ask_available.Tie as tie
 

@@ -1,5 +1,5 @@
 -- By what `scan` answers.
-use mathlib.Core.Path.{sym, ap, _∙_}
+use mathlib.Core.Path.{sym, _∙_}
 use denote.Ref.{now}
 use Rattle.book.proofs.Walk.{opened, parse-accepted, parse-refused}
 use Rattle.dockwrench.specs.Answers.{checkOf, bufferAfter, workAfter, checkedAnswer}

@@ -3,7 +3,6 @@ use denote.Ref.{now}
 use lib.ListN.{length}
 use Rattle.dockwrench.proofs.Laws.{zeros-as}
 use borrow.Author.Needs.{needs}
-use native.Mathlib.Omega.{arith}
 use Rattle.dockwrench.proofs.check_all.Statement.{statement}
 use Rattle.dockwrench.proofs.check_all.Tie as tie
 

@@ -2,7 +2,7 @@
 use mathlib.Core.Path.{sym, _∙_}
 use denote.Ref.{now}
 use Rattle.book.specs.Refusals.{parse}
-use Rattle.dockwrench.specs.Answers.{ancestorOf, ancestorAnswer}
+use Rattle.dockwrench.specs.Answers.{ancestorAnswer}
 use Rattle.dockwrench.proofs.Laws.{ancestor-links, ancestor-bounds}
 use borrow.Author.Needs.{needs}
 use native.Mathlib.Omega.{arith}

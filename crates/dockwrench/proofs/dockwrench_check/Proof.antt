@@ -1,5 +1,5 @@
 -- Each answer as its number.
-use mathlib.Core.Path.{sym, ap, _∙_}
+use mathlib.Core.Path.{sym, _∙_}
 use denote.Ref.{now}
 use Rattle.dockwrench.specs.Answers.{checkedAnswer}
 use Rattle.dockwrench.proofs.Laws.{found-few, room-few, check-bounds}

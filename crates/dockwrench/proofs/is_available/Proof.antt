@@ -2,7 +2,6 @@
 use mathlib.Core.Path.{sym, _∙_}
 use Rattle.dockwrench.specs.Answers.{availabilityBy}
 use borrow.Author.Needs.{needs}
-use native.Mathlib.Omega.{arith}
 use Rattle.dockwrench.proofs.is_available.Statement.{statement}
 use Rattle.dockwrench.proofs.is_available.Tie as tie
 

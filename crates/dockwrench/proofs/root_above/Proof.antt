@@ -2,9 +2,7 @@
 use mathlib.Core.Path.{sym, _∙_}
 use Rattle.book.proofs.Walk.{parts}
 use Rattle.dockwrench.proofs.Laws.{found-root, found-none}
-use Rattle.parents.specs.Roots.{rootOf}
 use borrow.Author.Needs.{needs}
-use native.Mathlib.Omega.{arith}
 use Rattle.dockwrench.proofs.root_above.Statement.{statement}
 use Rattle.dockwrench.proofs.root_above.Tie as tie
 

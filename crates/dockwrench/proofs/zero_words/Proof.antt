@@ -1,7 +1,7 @@
 -- A walk over the words.
-use Prim.Native.Nat.{_+_, _-_, _≤_, _<_}
-use mathlib.Core.Path.{_≡_, refl, sym, ap, _∙_}
-use mathlib.Core.List.{List, _++_, append-nil}
+use Prim.Native.Nat.{_+_, _-_, _≤_}
+use mathlib.Core.Path.{_≡_, refl}
+use mathlib.Core.List.{_++_}
 use lib.ListN.{length, replicate, drop}
 use Rattle.dockwrench.proofs.Laws.{zeroed-start, zeroed-more, zeroed-all}
 use borrow.Author.Needs.{needs}

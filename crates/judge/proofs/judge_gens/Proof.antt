@@ -1,6 +1,4 @@
 -- Without keys of the btree and entries of the table there is nothing to find.
-use Rattle.book.specs.Book.{gensFrom, bookOf}
-use Rattle.book.proofs.Walk.{parts}
 use Rattle.judge.proofs.Laws.{found-none, no-gens}
 use Rattle.judge.proofs.Absent.{left-false, right-false, lacks-gens, gens-none}
 use borrow.Author.Needs.{needs}

@@ -1,12 +1,10 @@
 -- The three rules one after the other.
-use Rattle.findings.specs.Findings.{Found}
 use Rattle.fields.proofs.Laws.{device-any}
 use Rattle.judge.specs.Steps.{keyRules}
 use Rattle.judge.proofs.Laws.{found-as, three-lent}
 use borrow.Author.Needs.{needs}
 use native.Mathlib.Omega.{arith}
 use denote.Ref.{now}
-use mathlib.Core.Path.{refl}
 use Rattle.judge.proofs.judge_key.Statement.{statement}
 use Rattle.judge.proofs.judge_key.Tie as tie
 
