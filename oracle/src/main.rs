@@ -174,7 +174,8 @@ fn table(first: &str) {
 fn row(name: &str, book: &layout::Book) -> bool {
     let t = speed::times(book);
     let micros = |d: std::time::Duration| d.as_secs_f64() * 1e6;
-    let shown = |d| format!("{:.*}", if micros(d) < 10.0 { 2 } else { 0 }, micros(d));
+    let digits = |m| if m < 1.0 { 3 } else { 2 * usize::from(m < 10.0) };
+    let shown = |d| format!("{:.*}", digits(micros(d)), micros(d));
     let ratio = micros(t.ours) / micros(t.rust);
     let (bytes, ours, rust, with_maps, pass) = (book.encode().len(), shown(t.ours), shown(t.rust), shown(t.with_maps), shown(t.pass));
     println!("| {name} | {bytes} | {} | {ours} | {rust} | {ratio:.2} | {with_maps} | {pass} |", t.findings);

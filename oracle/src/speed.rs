@@ -14,6 +14,9 @@ const VERSION: u16 = 1062;
 const ROUND: Duration = Duration::from_millis(60);
 const ROUNDS: usize = 7;
 
+/// Calls that take less are timed together.
+const BATCH: Duration = Duration::from_micros(20);
+
 /// The books of docs/SPEED.md, each with its name.
 pub fn rows() -> Vec<(&'static str, Book)> {
     vec![
@@ -183,17 +186,19 @@ fn pass(bytes: &[u8]) -> u64 {
     bytes.iter().fold(0u64, |sum, &b| sum.rotate_left(5) ^ u64::from(b))
 }
 
-/// The shortest time of one call in a round.
+/// The shortest time of one call in a round. Short calls are timed together, so many that the clock is read seldom.
 fn round<T>(mut call: impl FnMut() -> T) -> Duration {
-    let (begin, mut best) = (Instant::now(), Duration::MAX);
+    let (begin, mut best, mut calls) = (Instant::now(), Duration::MAX, 1);
     while begin.elapsed() < ROUND || best == Duration::MAX {
-        // short calls are timed together
-        let (start, mut calls) = (Instant::now(), 0);
-        while calls == 0 || start.elapsed() < Duration::from_micros(20) {
+        let start = Instant::now();
+        for _ in 0..calls {
             black_box(call());
-            calls += 1;
         }
-        best = best.min(start.elapsed() / calls);
+        let batch = start.elapsed();
+        best = best.min(batch / calls);
+        if batch < BATCH {
+            calls *= 2;
+        }
     }
     best
 }
