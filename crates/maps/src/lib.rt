@@ -1,8 +1,8 @@
 // The maps that rules make from the keys, as sorted pairs in the work words.
 ghost use mathlib.Core.Path.{_≡_};
-ghost use Prim.Native.Nat.{_+_, _*_, _≤_, _<_};
+ghost use Prim.Native.Nat.{_+_, _*_, _^_, _≤_, _<_};
 ghost use lib.ListN.{length, drop};
-ghost use Rattle.pairs.specs.Pairs.{pairAt, pairsOf, Sorted};
+ghost use Rattle.pairs.specs.Pairs.{pair, pairAt, pairsOf, Sorted, countBelow};
 ghost use Rattle.maps.specs.Places.{isFor, lastPlace, goesOn};
 ghost use Rattle.maps.specs.Sorted.{lastAt};
 use pairs::MaybeU64;
@@ -18,12 +18,11 @@ fn is_for(w: &[u64], i: usize, which: u64, number: u64) -> bool
     (first == number) & (second / 0x1_0000_0000 == which)
 }
 
-// The place in the last pair of a map with a number, of the first n pairs, which are sorted.
-pub fn find_place(w: &[u64], n: usize, which: u64, number: u64) -> MaybeU64
-    requires { ⌜ (2 * n ≤ length (now w)) × Sorted (pairsOf (now w) n) × (which < 2) ⌝ }
+// The place in the last pair of a map with a number, of the first n pairs, which are sorted: r are below those that come after it.
+fn place_before(w: &[u64], n: usize, r: usize, which: u64, number: u64) -> MaybeU64
+    requires { ⌜ (2 * n ≤ length (now w)) × Sorted (pairsOf (now w) n) × (which < 2) × (r ≡ countBelow (pair number ((which + 1) * 2 ^ 32)) (pairsOf (now w) n)) ⌝ }
     ensures { λ r. ⌜ r ≡ lastPlace which number (pairsOf (now (w .entry)) n) ⌝ }
 {
-    let r = pairs::lower_bound(w, n, number, (which + 1) * 0x1_0000_0000);
     if r == 0 {
         return MaybeU64::Absent;
     }
@@ -34,6 +33,24 @@ pub fn find_place(w: &[u64], n: usize, which: u64, number: u64) -> MaybeU64
     } else {
         MaybeU64::Absent
     }
+}
+
+// The place in the last pair of a map with a number, of the first n pairs, which are sorted.
+pub fn find_place(w: &[u64], n: usize, which: u64, number: u64) -> MaybeU64
+    requires { ⌜ (2 * n ≤ length (now w)) × Sorted (pairsOf (now w) n) × (which < 2) ⌝ }
+    ensures { λ r. ⌜ r ≡ lastPlace which number (pairsOf (now (w .entry)) n) ⌝ }
+{
+    let r = pairs::lower_bound(w, n, number, (which + 1) * 0x1_0000_0000);
+    place_before(w, n, r, which, number)
+}
+
+// The same, looked for from pair `from` on, where the pairs of the number start no earlier.
+pub fn find_place_from(w: &[u64], n: usize, from: usize, which: u64, number: u64) -> MaybeU64
+    requires { ⌜ (2 * n ≤ length (now w)) × Sorted (pairsOf (now w) n) × (which < 2) × (from ≤ n) ⌝ }
+    ensures { λ r. ⌜ r ≡ lastPlace which number (pairsOf (now (w .entry)) n) ⌝ }
+{
+    let r = pairs::lower_bound_from(w, n, from, number, (which + 1) * 0x1_0000_0000);
+    place_before(w, n, r, which, number)
 }
 
 // Whether there is a pair i among the first n, of a map and with a number.
