@@ -160,6 +160,10 @@ pub added-not : {o : List ℕ} {n : ℕ} {test b : Bool} (fs : List Finding) →
 unfolding only
 added-not fs e h = added-nil (rw (sym e ∙ h))
 
+-- the same findings, said otherwise
+pub found-as : {o o′ : List ℕ} {r : ℕ} {fs gs : List Finding} → fs ≡ gs → Found o fs r o′ → Found o gs r o′
+found-as e h = rw e at h
+
 -- the buffer keeps its length
 pub found-length : {o o′ : List ℕ} {fs : List Finding} {r : ℕ} → Found o fs r o′ → length o′ ≡ length o
 found-length {o} {fs = fs} h = ap length (h .buffer) ∙ length-put fs o

@@ -1,7 +1,7 @@
 // The rules on the subvolume flags of snapshots and on the children of subvolumes.
 ghost use mathlib.Core.Path.{_≡_};
 ghost use mathlib.Core.List.{_++_};
-ghost use Prim.Native.Nat.{_+_, _*_, _%_, _^_, _<_, _≤_};
+ghost use Prim.Native.Nat.{_+_, _*_, _%_, _^_, _<_, _≤_, min};
 ghost use lib.ListN.{length, getD, drop};
 ghost use Rattle.findings.specs.Findings.{Found, Added, only, each};
 ghost use Rattle.pairs.specs.Pairs.{pairsOf};
@@ -20,7 +20,7 @@ ghost use Rattle.snapshots.specs.Children.{
   wrongEntry,
   subvolumeChildren,
 };
-ghost use Rattle.snapshots.specs.Steps.{isListed, childPair, AtChild};
+ghost use Rattle.snapshots.specs.Steps.{childPair, wrongWord, anyWrong, AtChild, Known};
 use book::Header;
 use book::KeyFront;
 use book::MaybeU32;
@@ -85,15 +85,17 @@ fn has_fs_parent(book: &[u8], p: usize, f: KeyFront) -> bool
     false
 }
 
-// Whether the key at byte p is an entry whose parent is a number of 32 bits.
-fn is_listed(book: &[u8], p: usize, f: KeyFront) -> bool
+// The parent of the entry at byte p, as its pair has it.
+fn entry_parent(book: &[u8], p: usize, f: KeyFront) -> u64
     requires { ⌜ AtKey (now book) p f ⌝ }
-    ensures { λ r. ⌜ r ≡ isListed (keyAt (now (book .entry)) p) ⌝ }
+    ensures { λ r. ⌜ r ≡ min (keyAt (now (book .entry)) p .inode) (2 ^ 32) ⌝ }
 {
-    if (f.btree == 19) & (f.key_type == 25) {
-        return walk::key_inode(book, p, f) <= 0xffff_ffff;
+    let inode = walk::key_inode(book, p, f);
+    if inode < 0x1_0000_0000 {
+        inode
+    } else {
+        0x1_0000_0000
     }
-    false
 }
 
 // Puts the pair that the key at byte p gives behind the first n, and returns their number with it.
@@ -106,8 +108,8 @@ fn put_child(book: &[u8], p: usize, f: KeyFront, work: &mut [u64], n: usize) -> 
         pairs::put_pair(work, n, walk::key_offset(book, p, f), p as u64);
         return n + 1;
     }
-    if is_listed(book, p, f) {
-        let parent = walk::key_inode(book, p, f);
+    if (f.btree == 19) & (f.key_type == 25) {
+        let parent = entry_parent(book, p, f);
         pairs::put_pair(
             work,
             n,
@@ -166,7 +168,7 @@ fn show_missing(
         let child = work[q];
         let place = work[q + 1] % 0x1_0000_0000;
         let parent = fs_parent(book, place as usize) as u64;
-        let entry = pairs::has_pair(work, n, child, 0x1_0000_0000 + parent);
+        let entry = pairs::has_pair_from(work, n, i + 1, child, 0x1_0000_0000 + parent);
         return emit_if(out, m, (parent != 0) & !entry, 37, child, parent);
     }
     m
@@ -194,12 +196,20 @@ fn show_missings(
     found
 }
 
-// The parent of a child, by the first n pairs, which are sorted.
-fn find_parent(book: &[u8], h: Header, at: Places, work: &[u64], n: usize, child: u64) -> MaybeU32
-    requires { ⌜ Opened (now book) h at × (2 * n ≤ length (now work)) × AllPairs childPair (now book) (h .keys) (at .keys) (pairsOf (now work) n) ⌝ }
+// The parent of a child, by the first n pairs, which are sorted: its pairs are looked for from pair `from` on, if they start no earlier, else among all.
+fn find_parent(
+    book: &[u8],
+    h: Header,
+    at: Places,
+    work: &[u64],
+    n: usize,
+    from: usize,
+    child: u64,
+) -> MaybeU32
+    requires { ⌜ Opened (now book) h at × (2 * n ≤ length (now work)) × (from ≤ n) × AllPairs childPair (now book) (h .keys) (at .keys) (pairsOf (now work) n) ⌝ }
     ensures { λ r. ⌜ r ≡ maybeU32 (lookup child (fsParents (bookOf (now (book .entry))))) ⌝ }
 {
-    let found = maps::find_place(work, n, 0, child);
+    let found = maps::find_place_from(work, n, from, 0, child);
     match found {
         MaybeU64::Is(place) => MaybeU32::Is(fs_parent(book, place as usize)),
         MaybeU64::Absent => MaybeU32::Absent,
@@ -225,7 +235,7 @@ fn show_wrong(
     if (f.btree == 19) & (f.key_type == 25) {
         let inode = walk::key_inode(book, p, f);
         let child = walk::key_offset(book, p, f);
-        let found = find_parent(book, h, at, work, n, child);
+        let found = find_parent(book, h, at, work, n, n, child);
         match found {
             MaybeU32::Is(parent) => {
                 return emit_if(out, m, parent as u64 != inode, 38, child, parent as u64);
@@ -254,6 +264,69 @@ fn show_wrongs(book: &[u8], h: Header, at: Places, work: &[u64], n: usize, out: 
     found
 }
 
+// A child and its parent.
+struct Child {
+    number: u64,
+    parent: MaybeU32,
+}
+
+// The child of pair i and its parent; `known` is that of the pair before, or any other.
+fn child_at(
+    book: &[u8],
+    h: Header,
+    at: Places,
+    work: &[u64],
+    n: usize,
+    i: usize,
+    known: Child,
+) -> Child
+    requires { ⌜ Opened (now book) h at × (2 * n ≤ length (now work)) × (i < n) × AllPairs childPair (now book) (h .keys) (at .keys) (pairsOf (now work) n) × Known (bookOf (now book)) known ⌝ }
+    ensures { λ r. ⌜ (r .number ≡ getD (now (work .entry)) (2 * i) 0) × Known (bookOf (now (book .entry))) r ⌝ }
+{
+    let q = 2 * i;
+    let number = work[q];
+    if number == known.number {
+        return known;
+    }
+    let parent = find_parent(book, h, at, work, n, i, number);
+    Child { number, parent }
+}
+
+// Whether the second word of a pair is that of an entry, and another one than this parent of the child makes.
+fn is_wrong(second: u64, parent: MaybeU32) -> bool
+    ensures { λ r. ⌜ r ≡ wrongWord second parent ⌝ }
+{
+    if second < 0x1_0000_0000 {
+        return false;
+    }
+    match parent {
+        MaybeU32::Is(number) => {
+            (0x2_0000_0000 <= second) | (second != 0x1_0000_0000 + number as u64)
+        }
+        MaybeU32::Absent => true,
+    }
+}
+
+// Whether some entry's child has another parent, or is not there, by the first n pairs, which are sorted: the pairs of a child stand together.
+fn has_wrong(book: &[u8], h: Header, at: Places, work: &[u64], n: usize) -> bool
+    requires { ⌜ Opened (now book) h at × (2 * n ≤ length (now work)) × AllPairs childPair (now book) (h .keys) (at .keys) (pairsOf (now work) n) ⌝ }
+    ensures { λ r. ⌜ r ≡ anyWrong (fsParents (bookOf (now (book .entry)))) (pairsOf (now (work .entry)) n) ⌝ }
+{
+    let parent = find_parent(book, h, at, work, n, 0, 0);
+    let mut child = Child { number: 0, parent };
+    let mut i: usize = 0;
+    while i < n {
+        child = child_at(book, h, at, work, n, i, child);
+        let q = 2 * i;
+        let parent = child.parent;
+        if is_wrong(work[q + 1], parent) {
+            return true;
+        }
+        i += 1;
+    }
+    false
+}
+
 // The findings of both, by the first n pairs, which are sorted.
 fn show_children(
     book: &[u8],
@@ -268,8 +341,11 @@ fn show_children(
     ensures few { λ r. ⌜ r ≤ 2 * h .keys ⌝ }
 {
     let missing = show_missings(book, h, at, work, n, out);
-    let from = start_of(out.len(), missing);
-    missing + show_wrongs(book, h, at, work, n, &mut out[from..])
+    if has_wrong(book, h, at, work, n) {
+        let from = start_of(out.len(), missing);
+        return missing + show_wrongs(book, h, at, work, n, &mut out[from..]);
+    }
+    missing
 }
 
 // The findings of subvolumes whose entry is missing, then of entries that are wrong.
