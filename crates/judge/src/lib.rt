@@ -86,26 +86,6 @@ fn judge_at(
         )
 }
 
-// "Each key in turn".
-fn judge_keys(book: &[u8], h: Header, at: Places, out: &mut [u8]) -> usize
-    requires { ⌜ Opened (now book) h at ⌝ }
-    ensures found { λ r. ⌜ Found (now (out .entry)) (each (keyFindings (bookOf (now (book .entry)))) 0 (bookOf (now (book .entry)) .keys)) r (now (out .exit)) ⌝ }
-    ensures few { λ r. ⌜ r ≤ h .keys * 14 ⌝ }
-{
-    let mut n: usize = 0;
-    let mut i: u64 = 0;
-    let mut left = h.keys;
-    let mut p = at.keys;
-    while 0 < left {
-        let f = book::key_front(book, p);
-        n = judge_at(book, h, at, p, f, i, out, n);
-        p = p + 28 + f.len;
-        i += 1;
-        left -= 1;
-    }
-    n
-}
-
 // The btrees of which a book has keys, as far as a rule across keys asks.
 struct Present {
     subvolumes: bool,
@@ -128,10 +108,18 @@ fn with_btree(p: Present, b: u8) -> Present
     }
 }
 
-// Those of a book: a rule without keys of its btrees has nothing to find, and its walks over the keys are spared.
-fn find_present(book: &[u8], h: Header, at: Places) -> Present
+// What the three rules found at the keys, and the btrees of these: a rule across keys without keys of its btrees has nothing to find.
+struct Judged {
+    count: usize,
+    present: Present,
+}
+
+// "Each key in turn".
+fn judge_keys(book: &[u8], h: Header, at: Places, out: &mut [u8]) -> Judged
     requires { ⌜ Opened (now book) h at ⌝ }
-    ensures { λ r. ⌜ r ≡ presentIn (bookOf (now (book .entry)) .keys) ⌝ }
+    ensures found { λ r. ⌜ Found (now (out .entry)) (each (keyFindings (bookOf (now (book .entry)))) 0 (bookOf (now (book .entry)) .keys)) (r .count) (now (out .exit)) ⌝ }
+    ensures few { λ r. ⌜ r .count ≤ h .keys * 14 ⌝ }
+    ensures present { λ r. ⌜ r .present ≡ presentIn (bookOf (now (book .entry)) .keys) ⌝ }
 {
     let mut present = Present {
         subvolumes: false,
@@ -140,15 +128,19 @@ fn find_present(book: &[u8], h: Header, at: Places) -> Present
         trees: false,
         children: false,
     };
+    let mut n: usize = 0;
+    let mut i: u64 = 0;
     let mut left = h.keys;
     let mut p = at.keys;
     while 0 < left {
         let f = book::key_front(book, p);
         present = with_btree(present, f.btree);
+        n = judge_at(book, h, at, p, f, i, out, n);
         p = p + 28 + f.len;
+        i += 1;
         left -= 1;
     }
-    present
+    Judged { count: n, present }
 }
 
 // The rules on subvolumes alone.
@@ -291,12 +283,18 @@ fn judge_last(
 }
 
 // The eight rules across keys.
-fn judge_across(book: &[u8], h: Header, at: Places, out: &mut [u8], work: &mut [u64]) -> usize
-    requires { ⌜ Opened (now book) h at × (2 * h .keys ≤ length (now work)) ⌝ }
+fn judge_across(
+    book: &[u8],
+    h: Header,
+    at: Places,
+    p: Present,
+    out: &mut [u8],
+    work: &mut [u64],
+) -> usize
+    requires { ⌜ Opened (now book) h at × (2 * h .keys ≤ length (now work)) × (p ≡ presentIn (bookOf (now book) .keys)) ⌝ }
     ensures found { λ r. ⌜ Found (now (out .entry)) (acrossRules (bookOf (now (book .entry)))) r (now (out .exit)) ⌝ }
     ensures few { λ r. ⌜ r ≤ h .keys * 75172 + 196608 ⌝ }
 {
-    let p = find_present(book, h, at);
     let n = judge_first(book, h, at, p, out, work);
     let from = start_of(out.len(), n);
     n + judge_last(book, h, at, p, &mut out[from..], work)
@@ -308,7 +306,8 @@ pub fn judge(book: &[u8], h: Header, at: Places, out: &mut [u8], work: &mut [u64
     ensures found { λ r. ⌜ Found (now (out .entry)) (findingsOf (bookOf (now (book .entry)))) r (now (out .exit)) ⌝ }
     ensures few { λ r. ⌜ r < 2 ^ 32 ⌝ }
 {
-    let n = judge_keys(book, h, at, out);
+    let keys = judge_keys(book, h, at, out);
+    let n = keys.count;
     let from = start_of(out.len(), n);
-    n + judge_across(book, h, at, &mut out[from..], work)
+    n + judge_across(book, h, at, keys.present, &mut out[from..], work)
 }
