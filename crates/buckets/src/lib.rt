@@ -13,8 +13,6 @@ ghost use Rattle.book.specs.Book.{
   allocTable,
   allocFrom,
   entryAt,
-  keyHead,
-  keyEnd,
   keyOf,
   bookOf,
 };
