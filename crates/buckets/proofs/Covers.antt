@@ -1,8 +1,9 @@
 -- The pairs of the bucket_gens keys say which buckets are covered.
-use Prim.Native.Nat.{ℕ, zero, suc, _/_}
-use mathlib.Core.Path.{_≡_, refl, ap, ap₂}
+use Prim.Native.Nat.{ℕ, zero, suc, _+_, _-_, _/_}
+use mathlib.Core.Path.{_≡_, refl, sym, ap, ap₂, _∙_}
 use mathlib.Core.Bool.{Bool, true, false, cond, not, _&&_, _||_}
 use mathlib.Core.List.{List, [], _∷_, _++_}
+use lib.ListN.{take, drop}
 use lib.Dec.{eqb}
 use Rattle.findings.specs.Findings.{finding, when, each}
 use Rattle.pairs.specs.Pairs.{pair, sort, has}
@@ -11,19 +12,28 @@ use Rattle.pairs.proofs.Words.{pair-equal}
 use Rattle.book.specs.declared.KeyFront.{KeyFront}
 use Rattle.book.specs.declared.Header.{Header}
 use Rattle.book.specs.declared.Places.{Places}
-use Rattle.book.specs.Book.{Bkey, keyEnd, keysFrom, gensFrom, bookOf}
+use Rattle.book.specs.Book.{Bkey, keyHead, keyEnd, keysFrom, gensFrom, bookOf}
 use Rattle.book.specs.Walk.{Opened}
-use Rattle.book.proofs.Walk.{parts}
+use Rattle.book.proofs.Walk.{parts, value-part}
 use Rattle.walk.specs.Keys.{keyAt, AtKey, gather}
 use Rattle.walk.proofs.Gather.{at-is}
-use Rattle.buckets.specs.Gens.{isGens, covered, uncovered, bucketGensAgainstAlloc}
+use Rattle.buckets.specs.Gens.{isGens, genAt, gensOfKey, covered, uncovered, bucketGensAgainstAlloc}
 use Rattle.buckets.specs.Steps.{keyGens, coverPair, notCovered}
 
--- what the code tests of a key
-pub gens-test : {s : List ℕ} {p : ℕ} {f : KeyFront} → AtKey s p f → (device : ℕ) {i : ℕ} → i ≡ keyAt s p .inode → {b : Bool}
-    → (eqb (f .btree) 14 && eqb (f .«key_type») 30) && eqb i device ≡ b → isGens device (keyAt s p) ≡ b
-unfolding isGens
-gens-test k device e test = rw (← at-is k 14 30, ← e) test
+-- the key at hand: what the code tests of it, and its value as the part of the book that is lent
+module _ {s : List ℕ} {p : ℕ} {f : KeyFront} (k : AtKey s p f) where
+  pub gens-by : (device : ℕ) → eqb (f .btree) 14 && eqb (f .«key_type») 30 ≡ true → {i : ℕ} → i ≡ keyAt s p .inode → eqb i device ≡ isGens device (keyAt s p)
+  unfolding isGens
+  gens-by device test e = rw (sym (at-is k 14 30) ∙ test, e)
+
+  pub gens-not : (device : ℕ) → eqb (f .btree) 14 && eqb (f .«key_type») 30 ≡ false → false ≡ isGens device (keyAt s p)
+  unfolding isGens
+  gens-not device test = rw (sym (at-is k 14 30) ∙ test)
+
+  pub gens-found : {gens table : List (ℕ × ℕ)} → gens ≡ table → {offset : ℕ} → offset ≡ keyAt s p .offset
+      → each (genAt table offset) 0 (take 256 (take (p + 28 + f .len - (p + 28)) (drop (p + 28) s))) ≡ gensOfKey gens (keyAt s p)
+  unfolding gensOfKey keyHead
+  gens-found gens offset = rw (gens, offset, k .front, value-part s (keyHead s p))
 
 -- the pair that a key gives
 module _ (device p : ℕ) (k : Bkey) where

@@ -1,7 +1,7 @@
 -- What the code computes of a run is what the rule says of it.
 use Prim.Native.Nat.{ℕ, zero, suc, _+_, _-_, _*_, _/_, _%_, _^_, _≤_, _<_, max}
 use mathlib.Core.Path.{_≡_, refl, sym, ap, ap₂, _∙_, subst}
-use mathlib.Core.Bool.{Bool, true, false, true≢false, cond, not, _&&_, _||_}
+use mathlib.Core.Bool.{Bool, true, false, cond, not, _&&_, _||_}
 use mathlib.Core.List.{List, [], _∷_, _++_}
 use mathlib.Core.Option.{Option, none, some}
 use native.Mathlib.Nat.{le-of-suc-le-suc}
@@ -18,13 +18,13 @@ use Rattle.book.specs.declared.Header.{Header}
 use Rattle.book.specs.declared.KeyHead.{KeyHead}
 use Rattle.book.specs.declared.AllocEntry.{AllocEntry}
 use Rattle.book.specs.declared.Entry.{Entry}
-use Rattle.book.specs.Book.{Book, is, dataType, allocTable, allocFrom, entryAt, keyHead, keyEnd, keyOf, keysFrom, bookOf}
+use Rattle.book.specs.Book.{Bkey, Book, dataType, allocTable, allocFrom, entryAt, keyHead, keyEnd, keyOf, keysFrom, bookOf}
 use Rattle.book.specs.Walk.{maybeU8, allocEntryOf}
 use Rattle.walk.specs.Keys.{keyAt, gather}
 use Rattle.walk.proofs.Keys.{offset-lt}
 use Rattle.buckets.specs.declared.Used.{Used}
 use Rattle.buckets.specs.FreeSpace.{isRun, runStart, noRun, inUse, isFree, allocRange, usedBuckets, firstOr, setFindings, runFindings, heldRuns}
-use Rattle.buckets.specs.Steps.{noRunOf, runPair, inUseOf, isFreeOf, usedOf, usedWith, Fair}
+use Rattle.buckets.specs.Steps.{noRunOf, runPair, heldPair, inUseOf, isFreeOf, usedOf, usedWith, Fair}
 use Rattle.buckets.proofs.Tables.{table-step, table-none}
 
 -- ---- a run
@@ -38,10 +38,13 @@ pub run-size : (h : Header) (k : KeyHead) → noRunOf h k ≡ false → k .size 
 unfolding noRunOf
 run-size h k e = ltb-false (k .offset) (k .size) (or-first _ (not (eqb (k .inode) (h .device)) || ltb (h .buckets) (k .offset)) e)
 
-pub held-not : (a b : Bool) → a && not b ≡ true → b ≡ false
-held-not true true e = sym e
-held-not true false e = refl
-held-not false b e = absurd (true≢false (sym e))
+pub held-none : (h : Header) (k : KeyHead) → noRunOf h k ≡ true → heldPair h k ≡ []
+unfolding heldPair
+held-none h k e = rw e
+
+pub held-one : (h : Header) (k : KeyHead) → noRunOf h k ≡ false → {a : ℕ} → a ≡ max (k .offset - k .size) (h .«first_bucket») → pair a (k .offset) ∷ [] ≡ heldPair h k
+unfolding heldPair
+held-one h k e a = rw (e, a)
 
 module _ (s : List ℕ) {h : Header} (header : bookOf s .header ≡ h) (k : KeyHead) where
   no-run-is : noRunOf h k ≡ noRun (bookOf s) (keyOf s k)
@@ -58,19 +61,13 @@ module _ (s : List ℕ) {h : Header} (header : bookOf s .header ≡ h) (k : KeyH
   run-set e = rw (sym no-run-is ∙ e, header)
 
   -- the pair that it gives
-  module _ (p : ℕ) (head : k ≡ keyHead s p) {no : Bool} (judged : no ≡ noRunOf h k) where
-    held-test : (eqb (k .btree) 11 && eqb (k .«key_type») 25) && not no ≡ isRun (keyAt s p) && not (noRun (bookOf s) (keyAt s p))
-    unfolding is
-    held-test = rw (judged ∙ no-run-is, head)
+  pub run-pair : (p : ℕ) → k ≡ keyHead s p → isRun (keyAt s p) ≡ true → heldPair h k ≡ runPair (bookOf s) p (keyAt s p)
+  unfolding runPair heldPair
+  run-pair p head e = rw (no-run-is, head, header, e)
 
-    pub held-yes : (eqb (k .btree) 11 && eqb (k .«key_type») 25) && not no ≡ true → {a : ℕ} → a ≡ max (k .offset - k .size) (h .«first_bucket»)
-        → pair a (k .offset) ∷ [] ≡ runPair (bookOf s) p (keyAt s p)
-    unfolding runPair
-    held-yes e a = rw (sym held-test ∙ e, a, head, header)
-
-    pub held-no : (eqb (k .btree) 11 && eqb (k .«key_type») 25) && not no ≡ false → runPair (bookOf s) p (keyAt s p) ≡ []
-    unfolding runPair
-    held-no e = rw (sym held-test ∙ e)
+pub no-pair : (b : Book) (p : ℕ) (k : Bkey) → isRun k ≡ false → runPair b p k ≡ []
+unfolding runPair
+no-pair b p k e = rw e
 
 -- ---- the pairs of all runs
 held-by : (b : Bool) (x : ℕ) {xs ys : List ℕ} → xs ≡ ys → cond b (x ∷ []) [] ++ xs ≡ cond b (x ∷ ys) ys

@@ -39,6 +39,10 @@ noRunOf h k = ltb (k .offset) (k .size) || (not (eqb (k .inode) (h .device)) || 
 unfoldable pub runPair : Book → ℕ → Bkey → List ℕ
 runPair b p k = cond (isRun k && not (noRun b k)) (pair (max (runStart k) (b .header .«first_bucket»)) (k .offset) ∷ []) []
 
+-- the same by the head of a key that is a run
+unfoldable pub heldPair : Header → KeyHead → List ℕ
+heldPair h k = cond (not (noRunOf h k)) (pair (max (k .offset - k .size) (h .«first_bucket»)) (k .offset) ∷ []) []
+
 -- where the entries of an alloc table at byte p stand that are for the buckets from a up to e
 unfoldable pub rangeOf : ℕ → List (ℕ × Option ℕ) → ℕ → ℕ → Range
 rangeOf p alloc a e = record { start = p + lowerBound a alloc * 10; count = lowerBound e alloc - lowerBound a alloc }

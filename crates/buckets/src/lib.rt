@@ -13,14 +13,12 @@ ghost use Rattle.book.specs.Book.{
   allocTable,
   allocFrom,
   entryAt,
-  keyHead,
-  keyEnd,
   keyOf,
   bookOf,
 };
 ghost use Rattle.book.specs.Walk.{Opened, Rising};
 ghost use Rattle.walk.specs.Keys.{keyAt, AtKey, gather};
-ghost use Rattle.buckets.specs.Gens.{orZero, genAt, bucketGensAgainstAlloc};
+ghost use Rattle.buckets.specs.Gens.{orZero, isGens, genAt, gensOfKey, bucketGensAgainstAlloc};
 ghost use Rattle.buckets.specs.FreeSpace.{
   isRun,
   setFindings,
@@ -36,6 +34,7 @@ ghost use Rattle.buckets.specs.Steps.{
   coverPair,
   notCovered,
   noRunOf,
+  heldPair,
   runPair,
   rangeOf,
   inUseOf,
@@ -120,78 +119,97 @@ fn gens_of_value(
     n
 }
 
-// What the key at byte p gives, after n findings.
-fn key_gens(book: &[u8], h: Header, at: Places, p: usize, out: &mut [u8], n: usize) -> usize
-    requires { ⌜ Opened (now book) h at × (p + 28 ≤ length (now book)) × (keyEnd (now book) p ≤ length (now book)) × (n < 2 ^ 62) ⌝ }
-    ensures found { λ r. ⌜ Added (now (out .entry)) n (keyGens (h .device) (bookOf (now (book .entry)) .gens) (keyOf (now (book .entry)) (keyHead (now (book .entry)) p))) r (now (out .exit)) ⌝ }
+// Whether the key at byte p with the front f is a bucket_gens key of the device.
+fn is_gens(book: &[u8], device: u64, p: usize, f: KeyFront) -> bool
+    requires { ⌜ AtKey (now book) p f ⌝ }
+    ensures { λ r. ⌜ r ≡ isGens device (keyAt (now (book .entry)) p) ⌝ }
+{
+    if (f.btree == 14) & (f.key_type == 30) {
+        return walk::key_inode(book, p, f) == device;
+    }
+    false
+}
+
+// What the value of the key at byte p with the front f gives, after n findings.
+fn key_gens(
+    book: &[u8],
+    h: Header,
+    at: Places,
+    p: usize,
+    f: KeyFront,
+    out: &mut [u8],
+    n: usize,
+) -> usize
+    requires { ⌜ Opened (now book) h at × AtKey (now book) p f × (n < 2 ^ 62) ⌝ }
+    ensures found { λ r. ⌜ Added (now (out .entry)) n (gensOfKey (bookOf (now (book .entry)) .gens) (keyAt (now (book .entry)) p)) r (now (out .exit)) ⌝ }
     ensures few { λ r. ⌜ r ≤ n + 256 ⌝ }
 {
-    let k = book::key_head(book, p);
-    if (k.btree == 14) & (k.key_type == 30) & (k.inode == h.device) {
-        let start = k.start;
-        let end = k.start + k.len;
-        let from = start_of(out.len(), n);
-        return n
-            + gens_of_value(
-                book,
-                at.gens,
-                h.gens as usize,
-                k.offset,
-                &book[start..end],
-                &mut out[from..],
-            );
-    }
+    let start = p + 28;
+    let end = start + f.len;
+    let offset = walk::key_offset(book, p, f);
+    let from = start_of(out.len(), n);
     n
+        + gens_of_value(
+            book,
+            at.gens,
+            h.gens as usize,
+            offset,
+            &book[start..end],
+            &mut out[from..],
+        )
 }
 
-// What the bucket_gens keys give.
-fn gens_of_keys(book: &[u8], h: Header, at: Places, out: &mut [u8]) -> usize
-    requires { ⌜ Opened (now book) h at ⌝ }
-    ensures found { λ r. ⌜ Found (now (out .entry)) (each (λ _ k. keyGens (h .device) (bookOf (now (book .entry)) .gens) k) 0 (bookOf (now (book .entry)) .keys)) r (now (out .exit)) ⌝ }
-    ensures few { λ r. ⌜ r ≤ h .keys * 256 ⌝ }
+// A number of findings, and a number of pairs.
+struct Counts {
+    found: usize,
+    put: usize,
+}
+
+// What the key at byte p with the front f gives, if it is a bucket_gens key of the device: its findings after those counted, and the pair
+// of the offset that it covers behind those counted.
+fn take_gens(
+    book: &[u8],
+    h: Header,
+    at: Places,
+    p: usize,
+    f: KeyFront,
+    out: &mut [u8],
+    work: &mut [u64],
+    c: Counts,
+) -> Counts
+    requires { ⌜ Opened (now book) h at × AtKey (now book) p f × (c .found < 2 ^ 62) × (2 * c .put + 2 ≤ length (now work)) ⌝ }
+    ensures found { λ r. ⌜ Added (now (out .entry)) (c .found) (keyGens (h .device) (bookOf (now (book .entry)) .gens) (keyAt (now (book .entry)) p)) (r .found) (now (out .exit)) ⌝ }
+    ensures put { λ r. ⌜ pairsOf (now (work .exit)) (r .put) ≡ pairsOf (now (work .entry)) (c .put) ++ coverPair (h .device) p (keyAt (now (book .entry)) p) ⌝ }
+    ensures few { λ r. ⌜ (r .found ≤ c .found + 256) × (r .put ≤ c .put + 1) ⌝ }
 {
-    let mut n: usize = 0;
-    let mut left = h.keys;
-    let mut p = at.keys;
-    while 0 < left {
-        n = key_gens(book, h, at, p, out, n);
-        let front = book::key_front(book, p);
-        p = p + 28 + front.len;
-        left -= 1;
+    if is_gens(book, h.device, p, f) {
+        let found = key_gens(book, h, at, p, f, out, c.found);
+        pairs::put_pair(work, c.put, walk::key_offset(book, p, f), 0);
+        return Counts {
+            found,
+            put: c.put + 1,
+        };
     }
-    n
+    c
 }
 
-// Puts the offset of the key at byte p behind the first n pairs, if it is a bucket_gens key of the device, and returns their number with it.
-fn put_cover(book: &[u8], device: u64, p: usize, f: KeyFront, work: &mut [u64], n: usize) -> usize
-    requires { ⌜ AtKey (now book) p f × (2 * n + 2 ≤ length (now work)) ⌝ }
-    ensures put { λ r. ⌜ pairsOf (now (work .exit)) r ≡ pairsOf (now (work .entry)) n ++ coverPair device p (keyAt (now (book .entry)) p) ⌝ }
-    ensures few { λ r. ⌜ r ≤ n + 1 ⌝ }
-{
-    let inode = walk::key_inode(book, p, f);
-    if (f.btree == 14) & (f.key_type == 30) & (inode == device) {
-        pairs::put_pair(work, n, walk::key_offset(book, p, f), 0);
-        return n + 1;
-    }
-    n
-}
-
-// Puts a pair for each bucket_gens key of the device, and returns their number.
-fn put_covers(book: &[u8], h: Header, at: Places, work: &mut [u64]) -> usize
+// What the bucket_gens keys of the device give, and a pair for each.
+fn gens_of_keys(book: &[u8], h: Header, at: Places, out: &mut [u8], work: &mut [u64]) -> Counts
     requires { ⌜ Opened (now book) h at × (2 * h .keys ≤ length (now work)) ⌝ }
-    ensures put { λ r. ⌜ pairsOf (now (work .exit)) r ≡ gather (coverPair (h .device)) (now (book .entry)) (h .keys) (at .keys) ⌝ }
-    ensures few { λ r. ⌜ r ≤ h .keys ⌝ }
+    ensures found { λ r. ⌜ Found (now (out .entry)) (each (λ _ k. keyGens (h .device) (bookOf (now (book .entry)) .gens) k) 0 (bookOf (now (book .entry)) .keys)) (r .found) (now (out .exit)) ⌝ }
+    ensures put { λ r. ⌜ pairsOf (now (work .exit)) (r .put) ≡ gather (coverPair (h .device)) (now (book .entry)) (h .keys) (at .keys) ⌝ }
+    ensures few { λ r. ⌜ (r .found ≤ h .keys * 256) × (r .put ≤ h .keys) ⌝ }
 {
+    let mut c = Counts { found: 0, put: 0 };
     let mut left = h.keys;
     let mut p = at.keys;
-    let mut n: usize = 0;
     while 0 < left {
         let f = book::key_front(book, p);
-        n = put_cover(book, h.device, p, f, work, n);
+        c = take_gens(book, h, at, p, f, out, work, c);
         p = p + 28 + f.len;
         left -= 1;
     }
-    n
+    c
 }
 
 // What the entry of a gens table at byte p gives, where the first m pairs, which are sorted, are the offsets covered; n were found before.
@@ -249,8 +267,9 @@ pub fn bucket_gens_against_alloc(
     ensures found { λ r. ⌜ Found (now (out .entry)) (bucketGensAgainstAlloc (bookOf (now (book .entry)))) r (now (out .exit)) ⌝ }
     ensures few { λ r. ⌜ r ≤ h .keys * 256 + h .gens ⌝ }
 {
-    let n = gens_of_keys(book, h, at, out);
-    let covers = put_covers(book, h, at, work);
+    let keys = gens_of_keys(book, h, at, out, work);
+    let n = keys.found;
+    let covers = keys.put;
     pairs::sort_pairs(work, covers);
     let from = start_of(out.len(), n);
     n
@@ -285,38 +304,18 @@ fn no_run(h: Header, k: KeyHead) -> bool
     (k.offset < (k.size as u64)) | ((k.inode != h.device) | (h.buckets < k.offset))
 }
 
-// Puts the start and the end of the run at byte p behind the first n pairs, if the key there is one, and returns their number with it.
-fn put_run(book: &[u8], h: Header, p: usize, work: &mut [u64], n: usize) -> usize
-    requires { ⌜ (length (now book) ≤ 1048576) × (p + 28 ≤ length (now book)) × (bookOf (now book) .header ≡ h) × (2 * n + 2 ≤ length (now work)) ⌝ }
-    ensures put { λ r. ⌜ pairsOf (now (work .exit)) r ≡ pairsOf (now (work .entry)) n ++ runPair (bookOf (now (book .entry))) p (keyAt (now (book .entry)) p) ⌝ }
+// Puts the start and the end of the run with the head k behind the first n pairs, if it is one of the device, and returns their number with it.
+fn put_run(h: Header, k: KeyHead, work: &mut [u64], n: usize) -> usize
+    requires { ⌜ 2 * n + 2 ≤ length (now work) ⌝ }
+    ensures put { λ r. ⌜ pairsOf (now (work .exit)) r ≡ pairsOf (now (work .entry)) n ++ heldPair h k ⌝ }
     ensures few { λ r. ⌜ r ≤ n + 1 ⌝ }
 {
-    let k = book::key_head(book, p);
-    let none = no_run(h, k);
-    if ((k.btree == 11) & (k.key_type == 25)) & !none {
-        let start = most(k.offset - (k.size as u64), h.first_bucket as u64);
-        pairs::put_pair(work, n, start, k.offset);
-        return n + 1;
+    if no_run(h, k) {
+        return n;
     }
-    n
-}
-
-// Puts a pair for each run, runs of size 0 too, and returns their number.
-fn put_runs(book: &[u8], h: Header, at: Places, work: &mut [u64]) -> usize
-    requires { ⌜ Opened (now book) h at × (2 * h .keys ≤ length (now work)) ⌝ }
-    ensures put { λ r. ⌜ pairsOf (now (work .exit)) r ≡ gather (runPair (bookOf (now (book .entry)))) (now (book .entry)) (h .keys) (at .keys) ⌝ }
-    ensures few { λ r. ⌜ r ≤ h .keys ⌝ }
-{
-    let mut left = h.keys;
-    let mut p = at.keys;
-    let mut n: usize = 0;
-    while 0 < left {
-        let f = book::key_front(book, p);
-        n = put_run(book, h, p, work, n);
-        p = p + 28 + f.len;
-        left -= 1;
-    }
-    n
+    let start = most(k.offset - (k.size as u64), h.first_bucket as u64);
+    pairs::put_pair(work, n, start, k.offset);
+    n + 1
 }
 
 // Entries of an alloc table: the byte where the first of them starts, and their number.
@@ -441,35 +440,48 @@ fn show_run(book: &[u8], h: Header, at: Places, k: KeyHead, out: &mut [u8], n: u
     show_set(book, h, at, k.offset - size, k.offset, out, n)
 }
 
-// What the key at byte p gives, if it is a run, after n findings.
-fn run_at(book: &[u8], h: Header, at: Places, p: usize, out: &mut [u8], n: usize) -> usize
-    requires { ⌜ Opened (now book) h at × (p + 28 ≤ length (now book)) × (n < 2 ^ 62) ⌝ }
-    ensures found { λ r. ⌜ Added (now (out .entry)) n (only (isRun (keyAt (now (book .entry)) p)) (runFindings (bookOf (now (book .entry))) (keyAt (now (book .entry)) p))) r (now (out .exit)) ⌝ }
-    ensures few { λ r. ⌜ r ≤ n + 1 ⌝ }
+// What the key at byte p with the front f gives, if it is a run: its findings after those counted, and its pair behind those counted.
+fn take_run(
+    book: &[u8],
+    h: Header,
+    at: Places,
+    p: usize,
+    f: KeyFront,
+    out: &mut [u8],
+    work: &mut [u64],
+    c: Counts,
+) -> Counts
+    requires { ⌜ Opened (now book) h at × AtKey (now book) p f × (c .found < 2 ^ 62) × (2 * c .put + 2 ≤ length (now work)) ⌝ }
+    ensures found { λ r. ⌜ Added (now (out .entry)) (c .found) (only (isRun (keyAt (now (book .entry)) p)) (runFindings (bookOf (now (book .entry))) (keyAt (now (book .entry)) p))) (r .found) (now (out .exit)) ⌝ }
+    ensures put { λ r. ⌜ pairsOf (now (work .exit)) (r .put) ≡ pairsOf (now (work .entry)) (c .put) ++ runPair (bookOf (now (book .entry))) p (keyAt (now (book .entry)) p) ⌝ }
+    ensures few { λ r. ⌜ (r .found ≤ c .found + 1) × (r .put ≤ c .put + 1) ⌝ }
 {
-    let k = book::key_head(book, p);
-    if (k.btree == 11) & (k.key_type == 25) {
-        return show_run(book, h, at, k, out, n);
+    if (f.btree == 11) & (f.key_type == 25) {
+        let k = book::key_head(book, p);
+        let found = show_run(book, h, at, k, out, c.found);
+        let put = put_run(h, k, work, c.put);
+        return Counts { found, put };
     }
-    n
+    c
 }
 
-// What the runs give.
-fn show_runs(book: &[u8], h: Header, at: Places, out: &mut [u8]) -> usize
-    requires { ⌜ Opened (now book) h at ⌝ }
-    ensures found { λ r. ⌜ Found (now (out .entry)) (each (λ _ k. only (isRun k) (runFindings (bookOf (now (book .entry))) k)) 0 (bookOf (now (book .entry)) .keys)) r (now (out .exit)) ⌝ }
-    ensures few { λ r. ⌜ r ≤ h .keys ⌝ }
+// What the runs give, and a pair for each of the device, those of size 0 too.
+fn take_runs(book: &[u8], h: Header, at: Places, out: &mut [u8], work: &mut [u64]) -> Counts
+    requires { ⌜ Opened (now book) h at × (2 * h .keys ≤ length (now work)) ⌝ }
+    ensures found { λ r. ⌜ Found (now (out .entry)) (each (λ _ k. only (isRun k) (runFindings (bookOf (now (book .entry))) k)) 0 (bookOf (now (book .entry)) .keys)) (r .found) (now (out .exit)) ⌝ }
+    ensures put { λ r. ⌜ pairsOf (now (work .exit)) (r .put) ≡ gather (runPair (bookOf (now (book .entry)))) (now (book .entry)) (h .keys) (at .keys) ⌝ }
+    ensures few { λ r. ⌜ (r .found ≤ h .keys) × (r .put ≤ h .keys) ⌝ }
 {
-    let mut n: usize = 0;
+    let mut c = Counts { found: 0, put: 0 };
     let mut left = h.keys;
     let mut p = at.keys;
     while 0 < left {
-        n = run_at(book, h, at, p, out, n);
-        let front = book::key_front(book, p);
-        p = p + 28 + front.len;
+        let f = book::key_front(book, p);
+        c = take_run(book, h, at, p, f, out, work, c);
+        p = p + 28 + f.len;
         left -= 1;
     }
-    n
+    c
 }
 
 // What the alloc entry e gives in a gap of which the buckets up to `at` are passed, after n findings.
@@ -559,9 +571,10 @@ pub fn free_space(book: &[u8], h: Header, at: Places, out: &mut [u8], work: &mut
     ensures found { λ r. ⌜ Found (now (out .entry)) (freeSpace (bookOf (now (book .entry)))) r (now (out .exit)) ⌝ }
     ensures few { λ r. ⌜ r ≤ 2 * h .keys + 1 + 2 * h .alloc ⌝ }
 {
-    let n = show_runs(book, h, at, out);
-    let runs = put_runs(book, h, at, work);
-    pairs::sort_pairs(work, runs);
+    let runs = take_runs(book, h, at, out, work);
+    let n = runs.found;
+    let m = runs.put;
+    pairs::sort_pairs(work, m);
     let rest = start_of(out.len(), n);
-    n + show_gaps(book, h, at, work, runs, &mut out[rest..])
+    n + show_gaps(book, h, at, work, m, &mut out[rest..])
 }

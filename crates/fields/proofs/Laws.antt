@@ -14,7 +14,7 @@ use Rattle.findings.specs.Findings.{finding, when, only}
 use Rattle.book.specs.Book.{Bkey, bkey, is}
 use Rattle.book.specs.declared.KeyHead.{KeyHead}
 use Rattle.fields.specs.Device.{elsewhere, checkKeyDevice}
-use Rattle.fields.specs.Fields.{hasRow, accountingPositionBytes, accountingKind, replicasEntryRefused, countersBad, someNonzero, someNotRising, checkAccountingKey, checkInodeV3Word, checkSnapshotPad, checkAllocV4Value, checkPosition, checkKeyFields}
+use Rattle.fields.specs.Fields.{hasRow, sizeZero, accountingPositionBytes, accountingKind, replicasEntryRefused, countersBad, someNonzero, someNotRising, checkAccountingKey, checkInodeV3Word, checkSnapshotPad, checkAllocV4Value, checkPosition, checkKeyFields}
 use Rattle.fields.specs.Steps.{pairOf, sizeBad, snapshotBad, checkHead, checkValue, junkAtEnd, kindFound}
 
 -- `check_key_device` does not go by the value
@@ -32,6 +32,31 @@ and-false false b h = refl
 -- another pair
 pub pair-not : (x y b t : ℕ) → (pairOf b t ≡ pairOf x y → ⊥) → (eqb b x && eqb t y) ≡ false
 pair-not x y b t h = and-false _ _ (λ e f. h (ap₂ pairOf (eqb-true _ _ e) (eqb-true _ _ f)))
+
+-- ---- sizes
+
+-- keys of btrees 0 and 11 may have one
+no-row : (a b : ℕ) (t : ℕ) → hasRow sizeZero a t ≡ false → eqb b a ≡ true → hasRow sizeZero b t ≡ false
+no-row a b t h e = rw (eqb-true b a e) h
+
+sized : (none first second row : Bool) → (first ≡ true → row ≡ false) → (second ≡ true → row ≡ false) → none || (first || second) ≡ true → not none && row ≡ false
+sized true first second row f g e = refl
+sized false true second row f g e = f refl
+sized false false true row f g e = g refl
+sized false false false row f g e = cc
+
+pub size-may : (k : Bkey) → eqb (k .size) 0 || (eqb (k .btree) 0 || eqb (k .btree) 11) ≡ true → sizeBad k ≡ false
+unfolding sizeBad hasRow sizeZero
+size-may k e = sized (eqb (k .size) 0) _ _ _ (no-row 0 (k .btree) (k .keyType) refl) (no-row 11 (k .btree) (k .keyType) refl) e
+
+-- one that is not 0
+has-size : (none may row : Bool) → none || may ≡ false → row ≡ not none && row
+has-size true may row e = cc
+has-size false may row e = refl
+
+pub size-row : (k : Bkey) → eqb (k .size) 0 || (eqb (k .btree) 0 || eqb (k .btree) 11) ≡ false → hasRow sizeZero (k .btree) (k .keyType) ≡ sizeBad k
+unfolding sizeBad
+size-row k e = has-size (eqb (k .size) 0) (eqb (k .btree) 0 || eqb (k .btree) 11) _ e
 
 -- ---- the loops
 

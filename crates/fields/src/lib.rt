@@ -1,6 +1,6 @@
 // The rules on one key's device and fields: kinds 1 to 22. A key is its head and the bytes of its value, and `i` is its index.
 ghost use mathlib.Core.Path.{_≡_};
-ghost use mathlib.Core.Bool.{cond, _&&_};
+ghost use mathlib.Core.Bool.{cond};
 ghost use mathlib.Core.List.{[]};
 ghost use Prim.Native.Nat.{_+_, _<_, _≤_, _%_, _^_};
 ghost use lib.ListN.{length};
@@ -127,11 +127,11 @@ fn has_row(table: &[u8], btree: u8, key_type: u8) -> bool
     false
 }
 
-// Whether a key has a size that it may not have.
+// Whether a key has a size that it may not have: those of btrees 0 and 11 may.
 fn size_bad(h: KeyHead) -> bool
     ensures { λ r. ⌜ r ≡ sizeBad (bkey h []) ⌝ }
 {
-    if h.size == 0 {
+    if (h.size == 0) | ((h.btree == 0) | (h.btree == 11)) {
         return false;
     }
     has_row(&SIZE_ZERO, h.btree, h.key_type)

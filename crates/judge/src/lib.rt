@@ -2,9 +2,10 @@
 ghost use mathlib.Core.Path.{_≡_};
 ghost use Prim.Native.Nat.{_+_, _*_, _^_, _<_, _≤_};
 ghost use lib.ListN.{length};
-ghost use Rattle.findings.specs.Findings.{Found, each};
+ghost use Rattle.findings.specs.Findings.{Found, Added, each};
 ghost use Rattle.book.specs.Book.{bkey, bookOf};
 ghost use Rattle.book.specs.Walk.{Opened};
+ghost use Rattle.walk.specs.Keys.{keyAt, AtKey};
 ghost use Rattle.snapshots.specs.Children.{subvolumeChildren};
 ghost use Rattle.links.specs.Links.{snapshotLinks};
 ghost use Rattle.buckets.specs.Gens.{bucketGensAgainstAlloc};
@@ -12,6 +13,7 @@ ghost use Rattle.rules.specs.Rules.{keyFindings, findingsOf};
 ghost use Rattle.judge.specs.Present.{withBtree, presentIn};
 ghost use Rattle.judge.specs.Steps.{
   keyRules,
+  quiet,
   subvolumeRules,
   snapshotRules,
   firstRules,
@@ -19,6 +21,7 @@ ghost use Rattle.judge.specs.Steps.{
   acrossRules,
 };
 use book::Header;
+use book::KeyFront;
 use book::KeyHead;
 use book::Places;
 use findings::start_of;
@@ -36,35 +39,51 @@ fn judge_key(k: KeyHead, value: &[u8], device: u64, version: u16, i: u64, out: &
     b + states::check_state_words(Version(version), k, value, i, &mut out[from..])
 }
 
-// "Each key in turn".
-fn judge_keys(book: &[u8], h: Header, at: Places, out: &mut [u8]) -> usize
-    requires { ⌜ Opened (now book) h at ⌝ }
-    ensures found { λ r. ⌜ Found (now (out .entry)) (each (keyFindings (bookOf (now (book .entry)))) 0 (bookOf (now (book .entry)) .keys)) r (now (out .exit)) ⌝ }
-    ensures few { λ r. ⌜ r ≤ h .keys * 14 ⌝ }
+// Whether the three rules say nothing of the key at byte p by what is read here: its front f, its size and its snapshot.
+fn is_quiet(book: &[u8], p: usize, f: KeyFront) -> bool
+    requires { ⌜ AtKey (now book) p f ⌝ }
+    ensures { λ r. ⌜ r ≡ quiet (keyAt (now (book .entry)) p) ⌝ }
 {
-    let mut n: usize = 0;
-    let mut i: u64 = 0;
-    let mut left = h.keys;
-    let mut p = at.keys;
-    while 0 < left {
-        let k = book::key_head(book, p);
-        let start = k.start;
-        let end = k.start + k.len;
-        let from = start_of(out.len(), n);
-        n = n
-            + judge_key(
-                k,
-                &book[start..end],
-                h.device,
-                h.version,
-                i,
-                &mut out[from..],
-            );
-        p = end;
-        i += 1;
-        left -= 1;
+    let filed = (f.btree == 4) | ((f.btree == 13) | (f.btree == 14));
+    if !((f.key_type == 25) & !filed) {
+        return false;
     }
+    let size = bits::be32(book, p + 4);
+    let snapshot = bits::be32(book, p + 24);
+    ((size == 0) | (f.btree == 11)) & (snapshot == 0)
+}
+
+// What the three rules give for the key at byte p, number i, whose front is f, after n findings.
+fn judge_at(
+    book: &[u8],
+    h: Header,
+    at: Places,
+    p: usize,
+    f: KeyFront,
+    i: u64,
+    out: &mut [u8],
+    n: usize,
+) -> usize
+    requires { ⌜ Opened (now book) h at × AtKey (now book) p f × (n < 2 ^ 62) ⌝ }
+    ensures found { λ r. ⌜ Added (now (out .entry)) n (keyFindings (bookOf (now (book .entry))) i (keyAt (now (book .entry)) p)) r (now (out .exit)) ⌝ }
+    ensures few { λ r. ⌜ r ≤ n + 14 ⌝ }
+{
+    if is_quiet(book, p, f) {
+        return n;
+    }
+    let k = book::key_head(book, p);
+    let start = k.start;
+    let end = k.start + k.len;
+    let from = start_of(out.len(), n);
     n
+        + judge_key(
+            k,
+            &book[start..end],
+            h.device,
+            h.version,
+            i,
+            &mut out[from..],
+        )
 }
 
 // The btrees of which a book has keys, as far as a rule across keys asks.
@@ -89,10 +108,18 @@ fn with_btree(p: Present, b: u8) -> Present
     }
 }
 
-// Those of a book: a rule without keys of its btrees has nothing to find, and its walks over the keys are spared.
-fn find_present(book: &[u8], h: Header, at: Places) -> Present
+// What the three rules found at the keys, and the btrees of these: a rule across keys without keys of its btrees has nothing to find.
+struct Judged {
+    count: usize,
+    present: Present,
+}
+
+// "Each key in turn".
+fn judge_keys(book: &[u8], h: Header, at: Places, out: &mut [u8]) -> Judged
     requires { ⌜ Opened (now book) h at ⌝ }
-    ensures { λ r. ⌜ r ≡ presentIn (bookOf (now (book .entry)) .keys) ⌝ }
+    ensures found { λ r. ⌜ Found (now (out .entry)) (each (keyFindings (bookOf (now (book .entry)))) 0 (bookOf (now (book .entry)) .keys)) (r .count) (now (out .exit)) ⌝ }
+    ensures few { λ r. ⌜ r .count ≤ h .keys * 14 ⌝ }
+    ensures present { λ r. ⌜ r .present ≡ presentIn (bookOf (now (book .entry)) .keys) ⌝ }
 {
     let mut present = Present {
         subvolumes: false,
@@ -101,15 +128,19 @@ fn find_present(book: &[u8], h: Header, at: Places) -> Present
         trees: false,
         children: false,
     };
+    let mut n: usize = 0;
+    let mut i: u64 = 0;
     let mut left = h.keys;
     let mut p = at.keys;
     while 0 < left {
         let f = book::key_front(book, p);
         present = with_btree(present, f.btree);
+        n = judge_at(book, h, at, p, f, i, out, n);
         p = p + 28 + f.len;
+        i += 1;
         left -= 1;
     }
-    present
+    Judged { count: n, present }
 }
 
 // The rules on subvolumes alone.
@@ -252,12 +283,18 @@ fn judge_last(
 }
 
 // The eight rules across keys.
-fn judge_across(book: &[u8], h: Header, at: Places, out: &mut [u8], work: &mut [u64]) -> usize
-    requires { ⌜ Opened (now book) h at × (2 * h .keys ≤ length (now work)) ⌝ }
+fn judge_across(
+    book: &[u8],
+    h: Header,
+    at: Places,
+    p: Present,
+    out: &mut [u8],
+    work: &mut [u64],
+) -> usize
+    requires { ⌜ Opened (now book) h at × (2 * h .keys ≤ length (now work)) × (p ≡ presentIn (bookOf (now book) .keys)) ⌝ }
     ensures found { λ r. ⌜ Found (now (out .entry)) (acrossRules (bookOf (now (book .entry)))) r (now (out .exit)) ⌝ }
     ensures few { λ r. ⌜ r ≤ h .keys * 75172 + 196608 ⌝ }
 {
-    let p = find_present(book, h, at);
     let n = judge_first(book, h, at, p, out, work);
     let from = start_of(out.len(), n);
     n + judge_last(book, h, at, p, &mut out[from..], work)
@@ -269,7 +306,8 @@ pub fn judge(book: &[u8], h: Header, at: Places, out: &mut [u8], work: &mut [u64
     ensures found { λ r. ⌜ Found (now (out .entry)) (findingsOf (bookOf (now (book .entry)))) r (now (out .exit)) ⌝ }
     ensures few { λ r. ⌜ r < 2 ^ 32 ⌝ }
 {
-    let n = judge_keys(book, h, at, out);
+    let keys = judge_keys(book, h, at, out);
+    let n = keys.count;
     let from = start_of(out.len(), n);
-    n + judge_across(book, h, at, &mut out[from..], work)
+    n + judge_across(book, h, at, keys.present, &mut out[from..], work)
 }

@@ -10,11 +10,19 @@ use native.Mathlib.Omega.{arith}
 use Rattle.buckets.proofs.bucket_gens_against_alloc.Statement.{statement}
 use Rattle.buckets.proofs.bucket_gens_against_alloc.Tie as tie
 
+show-uncovered-requires : tie.Need-show-uncovered-requires
+show-uncovered-requires c κs =
+    let pre = c .before .before .before .before .before .before .before .before .before .before .before .before .before .before .before .before .before .before .pre in
+    (parts (pre .0) .gens-rise, omega arith, omega (arith, c .before .before .before .before .before .before .before .before .before .before .before .before .gens-of-keys .ensures .1 .1 .1, pre .1), sorted-by _ _ (c .before .before .before .before .before .before .sort-pairs .ensures .0))
+
 returns : tie.Need-returns
 returns c =
-    let sorted = c .before .before .before .before .before .before .before .before .before .sort-pairs .ensures .0 ∙ ap sort (c .before .before .before .before .before .before .before .before .before .before .before .before .before .put-covers .ensures .0) in
-    let found = more-lent (c .before .before .before .before .before .before .start-of .result) (c .before .before .before .before .before .before .before .before .before .before .before .before .before .before .before .before .before .gens-of-keys .result) (c .before .before .show-uncovered .result) (c .before .before .before .before .before .before .start-of .ensures) (c .before .before .before .before .before .before .before .before .before .before .before .before .before .before .before .before .before .gens-of-keys .ensures .0) (c .before .before .show-uncovered .ensures .0) in
-    (rw (← uncovered-all (c .before .before .before .before .before .before .before .before .before .before .before .before .before .before .before .before .before .before .before .before .before .before .pre .0) sorted) found, omega (arith, c .before .before .before .before .before .before .before .before .before .before .before .before .before .before .before .before .before .gens-of-keys .ensures .1, c .before .before .show-uncovered .ensures .1))
+    let keys = c .before .before .before .before .before .before .before .before .before .before .before .before .before .before .before .gens-of-keys in
+    let from = c .before .before .before .before .before .before .start-of in
+    let rest = c .before .before .show-uncovered in
+    let sorted = c .before .before .before .before .before .before .before .before .before .sort-pairs .ensures .0 ∙ ap sort (keys .ensures .1 .0) in
+    let found = more-lent (from .result) (keys .result .found) (rest .result) (from .ensures) (keys .ensures .0) (rest .ensures .0) in
+    (rw (← uncovered-all (c .before .before .before .before .before .before .before .before .before .before .before .before .before .before .before .before .before .before .before .before .before .pre .0) sorted) found, omega (arith, keys .ensures .1 .1 .0, rest .ensures .1))
 
 pub bucket-gens-against-alloc-spec : {M : Type 1} → statement M
 bucket-gens-against-alloc-spec =
@@ -23,12 +31,11 @@ bucket-gens-against-alloc-spec =
     (λ c κs. search needs)
     (λ c κs. search needs)
     (λ c κs. search needs)
-    (λ c κs. search needs)
     (λ c. search needs)
     (λ c. search needs)
     (λ c. search needs)
     (λ c. search needs)
-    (λ c κs. (parts (c .before .before .before .before .before .before .before .before .before .before .before .before .before .before .before .before .before .before .before .pre .0) .gens-rise, omega arith, omega (arith, c .before .before .before .before .before .before .before .before .before .before .put-covers .ensures .1, c .before .before .before .before .before .before .before .before .before .before .before .before .before .before .before .before .before .before .before .pre .1), sorted-by _ _ (c .before .before .before .before .before .before .sort-pairs .ensures .0)))
+    show-uncovered-requires
     (λ c. search needs)
     (λ c. search needs)
     (λ c. search needs)

@@ -1,18 +1,17 @@
--- `fields::size_bad` meets its contract, by the test of 0.
-use borrow.Author.Tests.{eq-eqb, ne-eqb}
+-- `fields::size_bad` meets its contract, by the test.
+use mathlib.Core.Path.{sym, _∙_}
 use Rattle.fields.specs.Fields.{sizeZero}
-use Rattle.fields.specs.Steps.{sizeBad}
+use Rattle.fields.proofs.Laws.{size-may, size-row}
 use borrow.Author.Needs.{needs}
 use Rattle.fields.proofs.size_bad.Statement.{statement}
 use Rattle.fields.proofs.size_bad.Tie as tie
 
 returns : tie.Need-returns
-unfolding sizeBad
-returns c = simp (eq-eqb _ _ (c .if1 .taken))
+returns c = sym (size-may _ (c .if1 .taken))
 
 returns-2 : tie.Need-returns-2
-unfolding sizeBad sizeZero
-returns-2 c = simp (ne-eqb _ _ (c .before .before .if1 .left)) (c .has-row .ensures)
+unfolding sizeZero
+returns-2 c = c .has-row .ensures ∙ size-row _ (c .before .before .if1 .left)
 
 pub size-bad-spec : {M : Type 1} → statement M
 size-bad-spec =

@@ -12,7 +12,7 @@ returns c =
     let one = c .before .before .before .before .before .before .before .before .before .before .judge-keys in
     let two = c .before .before .before .before .judge-across in
     let from = c .before .before .before .before .before .before .before .start-of in
-    (found-as (list-of _) (more-lent (from .result) (one .result) (two .result) (from .ensures) (one .ensures .0) (two .ensures .0)), omega (arith, one .ensures .1, two .ensures .1, few-keys (c .before .before .before .before .before .before .before .before .before .before .before .before .before .before .before .pre .0)))
+    (found-as (list-of _) (more-lent (from .result) (one .result .count) (two .result) (from .ensures) (one .ensures .0) (two .ensures .0)), omega (arith, one .ensures .1 .0, two .ensures .1, few-keys (c .before .before .before .before .before .before .before .before .before .before .before .before .before .before .before .pre .0)))
 
 pub judge-spec : {M : Type 1} → statement M
 judge-spec =
@@ -24,7 +24,7 @@ judge-spec =
     (λ c. search needs)
     (λ c. search needs)
     (λ c κs. search needs)
-    (λ c. omega (arith, c .before .before .before .before .before .before .before .before .before .before .judge-keys .ensures .1, c .before .before .before .before .judge-across .ensures .1, few-keys (c .before .before .before .before .before .before .before .before .before .before .before .before .before .before .before .pre .0)))
+    (λ c. omega (arith, c .before .before .before .before .before .before .before .before .before .before .judge-keys .ensures .1 .0, c .before .before .before .before .judge-across .ensures .1, few-keys (c .before .before .before .before .before .before .before .before .before .before .before .before .before .before .before .pre .0)))
     (λ c. search needs)
     (λ c. search needs)
     returns)

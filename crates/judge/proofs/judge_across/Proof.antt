@@ -21,12 +21,11 @@ judge-across-spec =
     (tie.spec
     (λ c κs. search needs)
     (λ c κs. search needs)
-    (λ c κs. search needs)
     (λ c. search needs)
     (λ c. search needs)
     (λ c. search needs)
     (λ c κs. search needs)
-    (λ c. omega (arith, c .before .before .before .before .before .before .before .before .before .before .before .before .judge-first .ensures .1, c .before .before .before .before .judge-last .ensures .1, few-keys (c .before .before .before .before .before .before .before .before .before .before .before .before .before .before .before .before .before .before .before .pre .0)))
+    (λ c. omega (arith, c .before .before .before .before .before .before .before .before .before .before .before .before .judge-first .ensures .1, c .before .before .before .before .judge-last .ensures .1, few-keys (c .before .before .before .before .before .before .before .before .before .before .before .before .before .before .before .before .before .before .pre .0)))
     (λ c. search needs)
     (λ c. search needs)
     returns)

@@ -1,49 +1,53 @@
 -- A walk over the keys.
 use Prim.Native.Nat.{_+_, _*_, _≤_}
-use denote.Ref.{now}
+use mathlib.Core.Path.{_≡_, refl, sym, _∙_}
 use Rattle.book.specs.Book.{keysFrom, bookOf}
 use Rattle.book.specs.Walk.{KeysFit}
-use Rattle.book.proofs.Walk.{parts, few-keys, step}
-use Rattle.findings.proofs.Walk.{Walk, first, turn-lent, last, each-cons, each-none, begun-length}
-use Rattle.walk.proofs.Keys.{keys-none, head-fits, value-fits}
+use Rattle.book.proofs.Walk.{parts, few-keys}
+use Rattle.findings.proofs.Walk.{Walk, first, last, each-none, begun-length}
+use Rattle.walk.proofs.Keys.{keys-none, head-fits, rest-fits, turn-keys}
+use Rattle.walk.proofs.Gather.{at-key, at-end}
 use Rattle.rules.specs.Rules.{keyFindings}
-use Rattle.judge.proofs.Laws.{found-as, key-judged, key-ends, keys-next}
+use Rattle.judge.specs.Present.{presentWith, presentIn}
+use Rattle.judge.proofs.Laws.{present-next, present-end}
 use borrow.Author.Needs.{needs}
 use native.Mathlib.Omega.{arith}
 use Rattle.judge.proofs.judge_keys.Statement.{statement}
 use Rattle.judge.proofs.judge_keys.Tie as tie
 
 abbrev Inv-loop : tie.InvT-loop
-Inv-loop book h out₀ n₀ i₀ left₀ p₀ out n i left p =
+Inv-loop book h at out₀ present₀ n₀ i₀ left₀ p₀ out present n i left p =
     (n + left * 14 ≤ left₀ * 14) × (i + left ≤ left₀) × KeysFit book left p × Walk (keyFindings (bookOf book)) (bookOf book .keys) out₀ i (keysFrom book left p) n out
+    × (presentWith present₀ (keysFrom book left₀ p₀) ≡ presentWith present (keysFrom book left p))
 
 abbrev μ-loop : tie.MeasureT-loop
-μ-loop book h out₀ n₀ i₀ left₀ p₀ out n i left p = left
+μ-loop book h at out₀ present₀ n₀ i₀ left₀ p₀ out present n i left p = left
 
 loop-holds : tie.Need-loop-holds Inv-loop μ-loop
 loop-holds c =
     let o = parts (c .before .before .pre) in
-    (omega arith, omega arith, o .keys-fit, rw (o .keys) first)
+    (omega arith, omega arith, o .keys-fit, rw (o .keys) first, refl)
 
 loop-again : tie.Need-loop-again Inv-loop μ-loop
 loop-again c =
-    let a = c .before .before .before .before .before .before .before .before .before .before .before .before .args in
-    let s = now (a .book) in
-    let l = c .before .before .before .before .before .before .before .before .before .loop in
-    let left = c .before .before .before .before .before .before .before .before .loop-test .taken in
-    let head = c .before .before .before .before .before .before .before .key-head in
-    let from = c .before .before .before .before .before .start-of in
-    let found = c .before .before .judge-key in
-    let ends = key-ends s (l .p) (head .ensures) in (
-      omega (arith, l .inv .0, found .ensures .1, left),
+    let l = c .before .before .before .before .before .before .before .before .loop in
+    let left = c .before .before .before .before .before .before .before .loop-test .taken in
+    let front = c .before .before .before .before .before .before .key-front .ensures in
+    let found = c .before .before .before .judge-at .ensures in
+    let ends = at-end (at-key (parts (c .before .before .before .before .before .before .before .before .before .before .before .pre) .small) left (l .inv .2) front) in (
+      omega (arith, l .inv .0, found .1, left),
       omega (arith, l .inv .1, left),
-      rw ends (step s (l .left) (l .p) left (l .inv .2) .rest),
-      turn-lent (from .result) (l .n) (found .result) (from .ensures) (l .inv .3) (found-as (key-judged (c .before .before .before .before .before .before .before .before .before .before .before .before .pre) (l .p) (l .i) (head .ensures)) (found .ensures .0))
-          (each-cons (keyFindings (bookOf s)) (l .i) (keys-next s (l .left) (l .p) left (l .inv .2) ends)),
+      rest-fits _ _ _ left front (l .inv .2),
+      turn-keys _ _ _ _ _ left (l .inv .2) front (l .inv .3) (found .0),
+      l .inv .4 ∙ (rw (c .before .before .before .before .before .with-btree .ensures) (present-next (l .present) _ _ _ left (l .inv .2) ends front)),
     )
 
 returns : tie.Need-returns Inv-loop μ-loop
-returns c = (last (c .before .loop .inv .3) (each-none _ _ (keys-none _ _ _ (omega arith))), omega arith)
+unfolding presentIn
+returns c = (
+  last (c .before .loop .inv .3) (each-none _ _ (keys-none _ _ _ (omega arith))),
+  (omega arith, rw (parts (c .before .before .before .before .pre) .keys) (sym (c .before .loop .inv .4 ∙ present-end _ _ _ _ (omega arith)))),
+)
 
 pub judge-keys-spec : {M : Type 1} → statement M
 judge-keys-spec =
@@ -52,18 +56,12 @@ judge-keys-spec =
     Inv-loop
     μ-loop
     loop-holds
-    (λ c κs. (parts (c .before .before .before .before .pre) .small, head-fits _ _ _ (c .loop-test .taken) (c .before .loop .inv .2)))
-    (λ c. omega (arith, key-ends _ _ (c .before .key-head .ensures), value-fits _ _ _ (c .before .before .loop-test .taken) (c .before .before .before .loop .inv .2), parts (c .before .before .before .before .before .before .pre) .small))
+    (λ c κs. let o = parts (c .before .before .before .before .pre) in omega (arith, o .small, head-fits _ _ _ (c .loop-test .taken) (c .before .loop .inv .2)))
     (λ c κs. search needs)
-    (λ c. omega (arith, c .before .struct-known))
-    (λ c. search needs)
-    (λ c. omega (arith, key-ends _ _ (c .before .before .key-head .ensures), value-fits _ _ _ (c .before .before .before .loop-test .taken) (c .before .before .before .before .loop .inv .2)))
-    (λ c. search needs)
-    (λ c. search needs)
-    (λ c. search needs)
-    (λ c κs. search needs)
-    (λ c. omega (arith, c .before .before .before .before .before .before .before .before .before .loop .inv .0, c .before .before .judge-key .ensures .1, few-keys (c .before .before .before .before .before .before .before .before .before .before .before .before .pre)))
-    (λ c. omega (arith, c .before .before .before .before .before .before .before .before .before .loop .inv .1, few-keys (c .before .before .before .before .before .before .before .before .before .before .before .before .pre)))
+    (λ c κs. (c .before .before .before .before .before .before .before .pre, at-key (parts (c .before .before .before .before .before .before .before .pre) .small) (c .before .before .before .loop-test .taken) (c .before .before .before .before .loop .inv .2) (c .before .before .key-front .ensures), omega (arith, c .before .before .before .before .loop .inv .0)))
+    (λ c. let k = at-key (parts (c .before .before .before .before .before .before .before .before .before .before .pre) .small) (c .before .before .before .before .before .before .loop-test .taken) (c .before .before .before .before .before .before .before .loop .inv .2) (c .before .before .before .before .before .key-front .ensures) in omega (arith, at-end k, k .inside, k .small))
+    (λ c. let k = at-key (parts (c .before .before .before .before .before .before .before .before .before .before .before .pre) .small) (c .before .before .before .before .before .before .before .loop-test .taken) (c .before .before .before .before .before .before .before .before .loop .inv .2) (c .before .before .before .before .before .before .key-front .ensures) in omega (arith, at-end k, k .inside, k .small))
+    (λ c. omega (arith, c .before .before .before .before .before .before .before .before .loop .inv .1, few-keys (c .before .before .before .before .before .before .before .before .before .before .before .pre)))
     (λ c. search needs)
     (λ c. search needs)
     loop-again
