@@ -21,4 +21,5 @@ main-spec =
     (λ c κs. search needs)
     look-all-requires
     (λ c κs. search needs)
+    (λ c κs. search needs)
     (λ c. search needs))
