@@ -28,7 +28,15 @@ ghost use Rattle.book.specs.Refusals.{
   scanOf,
 };
 ghost use Rattle.book.specs.Walk.{firstAt, Rising, frontOf, maybeU8, maybeU32, allocEntryOf};
-ghost use Rattle.book.specs.Steps.{Readable, FirstBefore, Near, entryReadOf, keyReadOf};
+ghost use Rattle.book.specs.Steps.{
+  Readable,
+  FirstBefore,
+  Near,
+  entryReadOf,
+  keyReadOf,
+  passes,
+  wordsRise,
+};
 ghost use Rattle.search.specs.Bound.{LowerBound, Bracket};
 use bits::Cursor;
 
@@ -317,6 +325,92 @@ fn table_verdict(book: &[u8], t: Table, start: usize, count: u16) -> Verdict
     Verdict::Passed
 }
 
+// Whether the first words of the four entries of two words after the one at byte `at` rise, from that one's, `first`, on.
+fn four_rise(book: &[u8], at: usize, first: u32) -> bool
+    requires { ⌜ (at + 40 ≤ length (now book)) × (first ≡ entryAt wordsTable (now book) at .first) ⌝ }
+    ensures { λ r. ⌜ r ≡ wordsRise (now (book .entry)) 4 at ⌝ }
+{
+    let one = bits::be32(book, at + 8);
+    if one <= first {
+        return false;
+    }
+    let two = bits::be32(book, at + 16);
+    if two <= one {
+        return false;
+    }
+    let three = bits::be32(book, at + 24);
+    if three <= two {
+        return false;
+    }
+    three < bits::be32(book, at + 32)
+}
+
+// Whether the first words of the `count` entries after the one at byte `start` rise: one entry to a turn.
+fn each_rise(book: &[u8], start: usize, count: usize) -> bool
+    requires { ⌜ start + 8 * count + 8 ≤ length (now book) ⌝ }
+    ensures { λ r. ⌜ r ≡ wordsRise (now (book .entry)) count start ⌝ }
+{
+    let mut at = start;
+    let mut left = count;
+    while 0 < left {
+        if bits::be32(book, at + 8) <= bits::be32(book, at) {
+            return false;
+        }
+        at += 8;
+        left -= 1;
+    }
+    true
+}
+
+// The same, four entries to a turn: the first word of the last is kept for the next turn.
+fn words_rise(book: &[u8], start: usize, count: usize) -> bool
+    requires { ⌜ start + 8 * count + 8 ≤ length (now book) ⌝ }
+    ensures { λ r. ⌜ r ≡ wordsRise (now (book .entry)) count start ⌝ }
+{
+    let mut at = start;
+    let mut left = count;
+    let mut first = bits::be32(book, at);
+    while 4 <= left {
+        if !four_rise(book, at, first) {
+            return false;
+        }
+        at += 32;
+        left -= 4;
+        first = bits::be32(book, at);
+    }
+    each_rise(book, at, left)
+}
+
+// Whether the `count` entries of the table of two words that starts at byte `start` pass: that they end within the book is tested once.
+fn words_pass(book: &[u8], start: usize, count: u16) -> bool
+    requires { ⌜ start < 2 ^ 31 ⌝ }
+    ensures { λ r. ⌜ r ≡ passes (tableVerdict wordsTable (now (book .entry)) start count start) ⌝ }
+{
+    if count == 0 {
+        return true;
+    }
+    if book.len() < start + 8 * (count as usize) {
+        return false;
+    }
+    words_rise(book, start, (count - 1) as usize)
+}
+
+// The first refusal of a table of two words: it is looked for only where the table does not pass.
+fn words_verdict(book: &[u8], start: usize, count: u16) -> Verdict
+    requires { ⌜ (length (now book) ≤ 1048576) × (start < 2 ^ 31) ⌝ }
+    ensures { λ r. ⌜ r ≡ tableVerdict wordsTable (now (book .entry)) start count start ⌝ }
+{
+    if words_pass(book, start, count) {
+        return Verdict::Passed;
+    }
+    let words = Table {
+        size: 8,
+        first: 32,
+        typed: false,
+    };
+    table_verdict(book, words, start, count)
+}
+
 // The front of the key at byte `at`.
 pub fn key_front(book: &[u8], at: usize) -> KeyFront
     requires { ⌜ (length (now book) ≤ 1048576) × (at + 4 ≤ length (now book)) ⌝ }
@@ -423,11 +517,6 @@ fn parts_verdict(book: &[u8], h: Header, at: Places) -> Verdict
     requires { ⌜ (length (now book) ≤ 1048576) × Near at ⌝ }
     ensures { λ r. ⌜ r ≡ partsVerdict (now (book .entry)) h at ⌝ }
 {
-    let words = Table {
-        size: 8,
-        first: 32,
-        typed: false,
-    };
     let gens = Table {
         size: 9,
         first: 64,
@@ -438,11 +527,11 @@ fn parts_verdict(book: &[u8], h: Header, at: Places) -> Verdict
         first: 64,
         typed: true,
     };
-    let v = table_verdict(book, words, at.parents, h.parents);
+    let v = words_verdict(book, at.parents, h.parents);
     let Verdict::Passed = v else {
         return v;
     };
-    let v = table_verdict(book, words, at.subvolumes, h.subvolumes);
+    let v = words_verdict(book, at.subvolumes, h.subvolumes);
     let Verdict::Passed = v else {
         return v;
     };
