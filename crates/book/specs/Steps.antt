@@ -4,6 +4,9 @@ use mathlib.Core.Path.{_≡_}
 use mathlib.Core.Bool.{Bool, true, false, _&&_}
 use mathlib.Core.List.{List}
 use lib.Dec.{ltb}
+use Rattle.book.specs.declared.Header.{Header}
+use Rattle.book.specs.declared.HeaderStart.{HeaderStart}
+use Rattle.book.specs.declared.Counts.{Counts}
 use Rattle.book.specs.declared.Places.{Places}
 use Rattle.book.specs.declared.Table.{Table}
 use Rattle.book.specs.declared.KeyFront.{KeyFront}
@@ -14,6 +17,20 @@ use Rattle.book.specs.declared.KeyRead.the-variants as read
 use Rattle.book.specs.declared.Verdict.{Verdict}
 use Rattle.book.specs.declared.Verdict.the-variants as verdict
 use Rattle.book.specs.Book.{wordsTable, entryAt}
+
+-- the fields of a header that stand in its first 8 bytes, and those in its last 8
+abbrev pub startOf : Header → HeaderStart
+startOf h = record {
+  layout = h .layout;
+  trees = h .trees;
+  spare = h .spare;
+  version = h .version;
+  «first_bucket» = h .«first_bucket»;
+  keys = h .keys;
+}
+
+abbrev pub countsOf : Header → Counts
+countsOf h = record { parents = h .parents; subvolumes = h .subvolumes; gens = h .gens; alloc = h .alloc }
 
 -- a table whose first field is a word of 32 or 64 bits, and that only as an alloc table has types: each of the four is
 pub record Readable (t : Table) : Type 0 where

@@ -36,6 +36,8 @@ ghost use Rattle.book.specs.Steps.{
   keyReadOf,
   passes,
   wordsRise,
+  startOf,
+  countsOf,
 };
 ghost use Rattle.search.specs.Bound.{LowerBound, Bracket};
 use bits::Cursor;
@@ -54,6 +56,24 @@ pub struct Header {
     pub subvolumes: u16,
     pub gens: u16,
     pub alloc: u16,
+}
+
+// The fields of a header in its first 8 bytes.
+struct HeaderStart {
+    layout: u8,
+    trees: bool,
+    spare: u16,
+    version: u16,
+    first_bucket: u16,
+    keys: u16,
+}
+
+// The counts of the four tables.
+struct Counts {
+    parents: u16,
+    subvolumes: u16,
+    gens: u16,
+    alloc: u16,
 }
 
 // Where the tables and the keys start, in bytes.
@@ -159,10 +179,10 @@ pub enum Scanned {
     Refused(usize, usize),
 }
 
-// The header of a book of 32 bytes or more.
-pub fn read_header(book: &[u8]) -> Header
-    requires { ⌜ 32 ≤ length (now book) ⌝ }
-    ensures { λ r. ⌜ r ≡ headerOf (now (book .entry)) ⌝ }
+// The fields of the first 8 bytes of a book.
+fn read_start(book: &[u8]) -> HeaderStart
+    requires { ⌜ 8 ≤ length (now book) ⌝ }
+    ensures { λ r. ⌜ r ≡ startOf (headerOf (now (book .entry))) ⌝ }
 {
     let start = Cursor { at: 0 };
     let t = start.take(book, 4);
@@ -182,12 +202,23 @@ pub fn read_header(book: &[u8]) -> Header
     let c = t.next;
     let t = c.take(book, 16);
     let keys = t.value as u16;
-    let c = t.next;
-    let device = c.take(book, 64);
-    let c = device.next;
-    let buckets = c.take(book, 64);
-    let c = buckets.next;
-    let t = c.take(book, 16);
+    HeaderStart {
+        layout,
+        trees,
+        spare,
+        version,
+        first_bucket,
+        keys,
+    }
+}
+
+// The counts of the four tables, in the last 8 bytes of the header.
+fn read_counts(book: &[u8]) -> Counts
+    requires { ⌜ 32 ≤ length (now book) ⌝ }
+    ensures { λ r. ⌜ r ≡ countsOf (headerOf (now (book .entry))) ⌝ }
+{
+    let start = Cursor { at: 192 };
+    let t = start.take(book, 16);
     let parents = t.value as u16;
     let c = t.next;
     let t = c.take(book, 16);
@@ -198,19 +229,38 @@ pub fn read_header(book: &[u8]) -> Header
     let c = t.next;
     let t = c.take(book, 16);
     let alloc = t.value as u16;
-    Header {
-        layout,
-        trees,
-        spare,
-        version,
-        first_bucket,
-        keys,
-        device: device.value,
-        buckets: buckets.value,
+    Counts {
         parents,
         subvolumes,
         gens,
         alloc,
+    }
+}
+
+// The header of a book of 32 bytes or more.
+pub fn read_header(book: &[u8]) -> Header
+    requires { ⌜ 32 ≤ length (now book) ⌝ }
+    ensures { λ r. ⌜ r ≡ headerOf (now (book .entry)) ⌝ }
+{
+    let start = read_start(book);
+    let c = Cursor { at: 64 };
+    let device = c.take(book, 64);
+    let c = device.next;
+    let buckets = c.take(book, 64);
+    let counts = read_counts(book);
+    Header {
+        layout: start.layout,
+        trees: start.trees,
+        spare: start.spare,
+        version: start.version,
+        first_bucket: start.first_bucket,
+        keys: start.keys,
+        device: device.value,
+        buckets: buckets.value,
+        parents: counts.parents,
+        subvolumes: counts.subvolumes,
+        gens: counts.gens,
+        alloc: counts.alloc,
     }
 }
 
@@ -302,7 +352,7 @@ fn check_entry(book: &[u8], t: Table, start: usize, at: usize, previous: u64) ->
 }
 
 // The first refusal of the `count` entries of the table that starts at byte `start`.
-fn table_verdict(book: &[u8], t: Table, start: usize, count: u16) -> Verdict
+fn entries_verdict(book: &[u8], t: Table, start: usize, count: u16) -> Verdict
     requires { ⌜ Readable t × (length (now book) ≤ 1048576) × (start < 2 ^ 31) ⌝ }
     ensures { λ r. ⌜ r ≡ tableVerdict t (now (book .entry)) start count start ⌝ }
 {
@@ -323,6 +373,17 @@ fn table_verdict(book: &[u8], t: Table, start: usize, count: u16) -> Verdict
         left -= 1;
     }
     Verdict::Passed
+}
+
+// The same, at once where the table has no entries.
+fn table_verdict(book: &[u8], t: Table, start: usize, count: u16) -> Verdict
+    requires { ⌜ Readable t × (length (now book) ≤ 1048576) × (start < 2 ^ 31) ⌝ }
+    ensures { λ r. ⌜ r ≡ tableVerdict t (now (book .entry)) start count start ⌝ }
+{
+    if count == 0 {
+        return Verdict::Passed;
+    }
+    entries_verdict(book, t, start, count)
 }
 
 // Whether the first words of the four entries of two words after the one at byte `at` rise, from that one's, `first`, on.
@@ -408,7 +469,7 @@ fn words_verdict(book: &[u8], start: usize, count: u16) -> Verdict
         first: 32,
         typed: false,
     };
-    table_verdict(book, words, start, count)
+    entries_verdict(book, words, start, count)
 }
 
 // The front of the key at byte `at`.
