@@ -1,5 +1,6 @@
 pub mod Laws
 pub mod Maps
+mod Rise
 pub mod Tables
 pub mod Walk
 mod Examples

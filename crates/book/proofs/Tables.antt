@@ -35,7 +35,7 @@ module _ (t : Table) (s : List ℕ) (bytes : (j : ℕ) → getD s j 0 < 256) (p 
       rw (width, place) (bits-be s bytes (p + k) m)
 
 -- each entry of a table that passes, passes
-entries-pass : (t : Table) (s : List ℕ) (start n i p : ℕ) → tableVerdict t s start n p ≡ Passed → i < n →
+pub entries-pass : (t : Table) (s : List ℕ) (start n i p : ℕ) → tableVerdict t s start n p ≡ Passed → i < n →
     entryVerdict t s start (p + i * t .size) ≡ Passed
 unfolding tableVerdict
 entries-pass t s start zero i p h l = absurd (not-suc-le-zero l)
@@ -82,9 +82,12 @@ bracket-from r b m l h =
     let i = b .inside in
     record { ordered = omega arith; inside = i; below = λ k e. lt-of-lt-of-le (r .rises k m e (omega arith)) h; above = b .above }
 
--- a word that was read is the first field of entry i
+-- a word that was read is the first field of the entry at byte p, or of entry i
+pub word-be : (s : List ℕ) → ((j : ℕ) → getD s j 0 < 256) → (p : ℕ) {w : ℕ} → w ≡ beAt s p 4 → w ≡ entryAt wordsTable s p .first
+word-be s bytes p e = e ∙ sym (first-be wordsTable s bytes p 4 refl)
+
 pub word-first : (s : List ℕ) → ((j : ℕ) → getD s j 0 < 256) → (start i : ℕ) {w : ℕ} → w ≡ beAt s (start + i * 8) 4 → w ≡ firstAt wordsTable s start i
-word-first s bytes start i e = e ∙ sym (first-be wordsTable s bytes (start + i * 8) 4 refl)
+word-first s bytes start i e = word-be s bytes (start + i * 8) e
 
 module _ {A : Type 0} (read : ℕ → A) (t : Table) (s : List ℕ) where
   -- the entry at byte p, as a pair of the map

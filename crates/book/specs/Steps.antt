@@ -1,8 +1,12 @@
 -- What only contracts of private functions cite: the steps of `scan` and of a search.
-use Prim.Native.Nat.{ℕ, _+_, _-_, _*_, _%_, _^_, _≤_, _<_}
+use Prim.Native.Nat.{ℕ, zero, suc, _+_, _-_, _*_, _%_, _^_, _≤_, _<_}
 use mathlib.Core.Path.{_≡_}
-use mathlib.Core.Bool.{true}
+use mathlib.Core.Bool.{Bool, true, false, _&&_}
 use mathlib.Core.List.{List}
+use lib.Dec.{ltb}
+use Rattle.book.specs.declared.Header.{Header}
+use Rattle.book.specs.declared.HeaderStart.{HeaderStart}
+use Rattle.book.specs.declared.Counts.{Counts}
 use Rattle.book.specs.declared.Places.{Places}
 use Rattle.book.specs.declared.Table.{Table}
 use Rattle.book.specs.declared.KeyFront.{KeyFront}
@@ -12,7 +16,21 @@ use Rattle.book.specs.declared.KeyRead.{KeyRead}
 use Rattle.book.specs.declared.KeyRead.the-variants as read
 use Rattle.book.specs.declared.Verdict.{Verdict}
 use Rattle.book.specs.declared.Verdict.the-variants as verdict
-use Rattle.book.specs.Book.{entryAt}
+use Rattle.book.specs.Book.{wordsTable, entryAt}
+
+-- the fields of a header that stand in its first 8 bytes, and those in its last 8
+abbrev pub startOf : Header → HeaderStart
+startOf h = record {
+  layout = h .layout;
+  trees = h .trees;
+  spare = h .spare;
+  version = h .version;
+  «first_bucket» = h .«first_bucket»;
+  keys = h .keys;
+}
+
+abbrev pub countsOf : Header → Counts
+countsOf h = record { parents = h .parents; subvolumes = h .subvolumes; gens = h .gens; alloc = h .alloc }
 
 -- a table whose first field is a word of 32 or 64 bits, and that only as an alloc table has types: each of the four is
 pub record Readable (t : Table) : Type 0 where
@@ -40,3 +58,13 @@ entryReadOf (verdict.Refused number place) first = entry.Refused number place
 unfoldable pub keyReadOf : Verdict → KeyFront → KeyRead
 keyReadOf verdict.Passed f = read.Key f
 keyReadOf (verdict.Refused number place) f = read.Refused number place
+
+-- whether a check is passed
+unfoldable pub passes : Verdict → Bool
+passes verdict.Passed = true
+passes (verdict.Refused number place) = false
+
+-- whether the first words of the n entries of two 32-bit words after the one at byte p rise, from that one's on
+unfoldable pub wordsRise : List ℕ → ℕ → ℕ → Bool
+wordsRise s zero p = true
+wordsRise s (suc n) p = ltb (entryAt wordsTable s p .first) (entryAt wordsTable s (p + 8) .first) && wordsRise s n (p + 8)

@@ -28,7 +28,17 @@ ghost use Rattle.book.specs.Refusals.{
   scanOf,
 };
 ghost use Rattle.book.specs.Walk.{firstAt, Rising, frontOf, maybeU8, maybeU32, allocEntryOf};
-ghost use Rattle.book.specs.Steps.{Readable, FirstBefore, Near, entryReadOf, keyReadOf};
+ghost use Rattle.book.specs.Steps.{
+  Readable,
+  FirstBefore,
+  Near,
+  entryReadOf,
+  keyReadOf,
+  passes,
+  wordsRise,
+  startOf,
+  countsOf,
+};
 ghost use Rattle.search.specs.Bound.{LowerBound, Bracket};
 use bits::Cursor;
 
@@ -46,6 +56,24 @@ pub struct Header {
     pub subvolumes: u16,
     pub gens: u16,
     pub alloc: u16,
+}
+
+// The fields of a header in its first 8 bytes.
+struct HeaderStart {
+    layout: u8,
+    trees: bool,
+    spare: u16,
+    version: u16,
+    first_bucket: u16,
+    keys: u16,
+}
+
+// The counts of the four tables.
+struct Counts {
+    parents: u16,
+    subvolumes: u16,
+    gens: u16,
+    alloc: u16,
 }
 
 // Where the tables and the keys start, in bytes.
@@ -151,10 +179,10 @@ pub enum Scanned {
     Refused(usize, usize),
 }
 
-// The header of a book of 32 bytes or more.
-pub fn read_header(book: &[u8]) -> Header
-    requires { ⌜ 32 ≤ length (now book) ⌝ }
-    ensures { λ r. ⌜ r ≡ headerOf (now (book .entry)) ⌝ }
+// The fields of the first 8 bytes of a book.
+fn read_start(book: &[u8]) -> HeaderStart
+    requires { ⌜ 8 ≤ length (now book) ⌝ }
+    ensures { λ r. ⌜ r ≡ startOf (headerOf (now (book .entry))) ⌝ }
 {
     let start = Cursor { at: 0 };
     let t = start.take(book, 4);
@@ -174,12 +202,23 @@ pub fn read_header(book: &[u8]) -> Header
     let c = t.next;
     let t = c.take(book, 16);
     let keys = t.value as u16;
-    let c = t.next;
-    let device = c.take(book, 64);
-    let c = device.next;
-    let buckets = c.take(book, 64);
-    let c = buckets.next;
-    let t = c.take(book, 16);
+    HeaderStart {
+        layout,
+        trees,
+        spare,
+        version,
+        first_bucket,
+        keys,
+    }
+}
+
+// The counts of the four tables, in the last 8 bytes of the header.
+fn read_counts(book: &[u8]) -> Counts
+    requires { ⌜ 32 ≤ length (now book) ⌝ }
+    ensures { λ r. ⌜ r ≡ countsOf (headerOf (now (book .entry))) ⌝ }
+{
+    let start = Cursor { at: 192 };
+    let t = start.take(book, 16);
     let parents = t.value as u16;
     let c = t.next;
     let t = c.take(book, 16);
@@ -190,19 +229,38 @@ pub fn read_header(book: &[u8]) -> Header
     let c = t.next;
     let t = c.take(book, 16);
     let alloc = t.value as u16;
-    Header {
-        layout,
-        trees,
-        spare,
-        version,
-        first_bucket,
-        keys,
-        device: device.value,
-        buckets: buckets.value,
+    Counts {
         parents,
         subvolumes,
         gens,
         alloc,
+    }
+}
+
+// The header of a book of 32 bytes or more.
+pub fn read_header(book: &[u8]) -> Header
+    requires { ⌜ 32 ≤ length (now book) ⌝ }
+    ensures { λ r. ⌜ r ≡ headerOf (now (book .entry)) ⌝ }
+{
+    let start = read_start(book);
+    let c = Cursor { at: 64 };
+    let device = c.take(book, 64);
+    let c = device.next;
+    let buckets = c.take(book, 64);
+    let counts = read_counts(book);
+    Header {
+        layout: start.layout,
+        trees: start.trees,
+        spare: start.spare,
+        version: start.version,
+        first_bucket: start.first_bucket,
+        keys: start.keys,
+        device: device.value,
+        buckets: buckets.value,
+        parents: counts.parents,
+        subvolumes: counts.subvolumes,
+        gens: counts.gens,
+        alloc: counts.alloc,
     }
 }
 
@@ -294,7 +352,7 @@ fn check_entry(book: &[u8], t: Table, start: usize, at: usize, previous: u64) ->
 }
 
 // The first refusal of the `count` entries of the table that starts at byte `start`.
-fn table_verdict(book: &[u8], t: Table, start: usize, count: u16) -> Verdict
+fn entries_verdict(book: &[u8], t: Table, start: usize, count: u16) -> Verdict
     requires { ⌜ Readable t × (length (now book) ≤ 1048576) × (start < 2 ^ 31) ⌝ }
     ensures { λ r. ⌜ r ≡ tableVerdict t (now (book .entry)) start count start ⌝ }
 {
@@ -315,6 +373,103 @@ fn table_verdict(book: &[u8], t: Table, start: usize, count: u16) -> Verdict
         left -= 1;
     }
     Verdict::Passed
+}
+
+// The same, at once where the table has no entries.
+fn table_verdict(book: &[u8], t: Table, start: usize, count: u16) -> Verdict
+    requires { ⌜ Readable t × (length (now book) ≤ 1048576) × (start < 2 ^ 31) ⌝ }
+    ensures { λ r. ⌜ r ≡ tableVerdict t (now (book .entry)) start count start ⌝ }
+{
+    if count == 0 {
+        return Verdict::Passed;
+    }
+    entries_verdict(book, t, start, count)
+}
+
+// Whether the first words of the four entries of two words after the one at byte `at` rise, from that one's, `first`, on.
+fn four_rise(book: &[u8], at: usize, first: u32) -> bool
+    requires { ⌜ (at + 40 ≤ length (now book)) × (first ≡ entryAt wordsTable (now book) at .first) ⌝ }
+    ensures { λ r. ⌜ r ≡ wordsRise (now (book .entry)) 4 at ⌝ }
+{
+    let one = bits::be32(book, at + 8);
+    if one <= first {
+        return false;
+    }
+    let two = bits::be32(book, at + 16);
+    if two <= one {
+        return false;
+    }
+    let three = bits::be32(book, at + 24);
+    if three <= two {
+        return false;
+    }
+    three < bits::be32(book, at + 32)
+}
+
+// Whether the first words of the `count` entries after the one at byte `start` rise: one entry to a turn.
+fn each_rise(book: &[u8], start: usize, count: usize) -> bool
+    requires { ⌜ start + 8 * count + 8 ≤ length (now book) ⌝ }
+    ensures { λ r. ⌜ r ≡ wordsRise (now (book .entry)) count start ⌝ }
+{
+    let mut at = start;
+    let mut left = count;
+    while 0 < left {
+        if bits::be32(book, at + 8) <= bits::be32(book, at) {
+            return false;
+        }
+        at += 8;
+        left -= 1;
+    }
+    true
+}
+
+// The same, four entries to a turn: the first word of the last is kept for the next turn.
+fn words_rise(book: &[u8], start: usize, count: usize) -> bool
+    requires { ⌜ start + 8 * count + 8 ≤ length (now book) ⌝ }
+    ensures { λ r. ⌜ r ≡ wordsRise (now (book .entry)) count start ⌝ }
+{
+    let mut at = start;
+    let mut left = count;
+    let mut first = bits::be32(book, at);
+    while 4 <= left {
+        if !four_rise(book, at, first) {
+            return false;
+        }
+        at += 32;
+        left -= 4;
+        first = bits::be32(book, at);
+    }
+    each_rise(book, at, left)
+}
+
+// Whether the `count` entries of the table of two words that starts at byte `start` pass: that they end within the book is tested once.
+fn words_pass(book: &[u8], start: usize, count: u16) -> bool
+    requires { ⌜ start < 2 ^ 31 ⌝ }
+    ensures { λ r. ⌜ r ≡ passes (tableVerdict wordsTable (now (book .entry)) start count start) ⌝ }
+{
+    if count == 0 {
+        return true;
+    }
+    if book.len() < start + 8 * (count as usize) {
+        return false;
+    }
+    words_rise(book, start, (count - 1) as usize)
+}
+
+// The first refusal of a table of two words: it is looked for only where the table does not pass.
+fn words_verdict(book: &[u8], start: usize, count: u16) -> Verdict
+    requires { ⌜ (length (now book) ≤ 1048576) × (start < 2 ^ 31) ⌝ }
+    ensures { λ r. ⌜ r ≡ tableVerdict wordsTable (now (book .entry)) start count start ⌝ }
+{
+    if words_pass(book, start, count) {
+        return Verdict::Passed;
+    }
+    let words = Table {
+        size: 8,
+        first: 32,
+        typed: false,
+    };
+    entries_verdict(book, words, start, count)
 }
 
 // The front of the key at byte `at`.
@@ -423,11 +578,6 @@ fn parts_verdict(book: &[u8], h: Header, at: Places) -> Verdict
     requires { ⌜ (length (now book) ≤ 1048576) × Near at ⌝ }
     ensures { λ r. ⌜ r ≡ partsVerdict (now (book .entry)) h at ⌝ }
 {
-    let words = Table {
-        size: 8,
-        first: 32,
-        typed: false,
-    };
     let gens = Table {
         size: 9,
         first: 64,
@@ -438,11 +588,11 @@ fn parts_verdict(book: &[u8], h: Header, at: Places) -> Verdict
         first: 64,
         typed: true,
     };
-    let v = table_verdict(book, words, at.parents, h.parents);
+    let v = words_verdict(book, at.parents, h.parents);
     let Verdict::Passed = v else {
         return v;
     };
-    let v = table_verdict(book, words, at.subvolumes, h.subvolumes);
+    let v = words_verdict(book, at.subvolumes, h.subvolumes);
     let Verdict::Passed = v else {
         return v;
     };

@@ -1,66 +1,28 @@
--- `book::read_header` meets its contract: twelve steps of the cursor, each from where the one before ended.
+-- `book::read_header` meets its contract: the fields of the first 8 bytes, two words, and the four counts.
 use mathlib.Core.Path.{refl}
 use denote.Ref.{now}
 use Rattle.bits.proofs.Laws.{taken}
 use Rattle.book.specs.Book.{headerOf}
 use borrow.Author.Needs.{needs}
-use native.Mathlib.Omega.{arith}
 use Rattle.book.proofs.read_header.Statement.{statement}
 use Rattle.book.proofs.read_header.Tie as tie
 
 returns : tie.Need-returns
 unfolding headerOf
 returns c =
-    let p12 = c .before in
-    let p11 = p12 .before .before .before in
-    let p10 = p11 .before .before .before in
-    let p9 = p10 .before .before .before in
-    let p8 = p9 .before .before in
-    let p7 = p8 .before .before in
-    let p6 = p7 .before .before .before in
-    let p5 = p6 .before .before .before in
-    let p4 = p5 .before .before .before in
-    let p3 = p4 .before .before .before in
-    let p2 = p3 .before .before .before in
-    let p1 = p2 .before .before .before in
-    let s = now (p1 .before .before .args .book) in
-    let layout = taken s 4 (p1 .take .ensures) refl in
-    let mark = taken s 1 (p2 .take2 .ensures) (layout .1) in
-    let spare = taken s 11 (p3 .take3 .ensures) (mark .1) in
-    let version = taken s 16 (p4 .take4 .ensures) (spare .1) in
-    let bucket = taken s 16 (p5 .take5 .ensures) (version .1) in
-    let keys = taken s 16 (p6 .take6 .ensures) (bucket .1) in
-    let device = taken s 64 (p7 .take7 .ensures) (keys .1) in
-    let buckets = taken s 64 (p8 .take8 .ensures) (device .1) in
-    let parents = taken s 16 (p9 .take9 .ensures) (buckets .1) in
-    let subvolumes = taken s 16 (p10 .take10 .ensures) (parents .1) in
-    let gens = taken s 16 (p11 .take11 .ensures) (subvolumes .1) in
-    let alloc = taken s 16 (p12 .take12 .ensures) (gens .1) in
-    rw (layout .0, mark .0, spare .0, version .0, bucket .0, keys .0, device .0, buckets .0, parents .0, subvolumes .0, gens .0, alloc .0)
+    let p2 = c .before in
+    let p1 = p2 .before .before in
+    let s = now (p1 .before .before .before .args .book) in
+    let device = taken s 64 (p1 .take .ensures) refl in
+    let buckets = taken s 64 (p2 .take2 .ensures) (device .1) in
+    rw (p1 .before .read-start .ensures, c .read-counts .ensures, device .0, buckets .0)
 
 pub read-header-spec : {M : Type 1} → statement M
 read-header-spec =
     tie.close
     (tie.spec
     (λ c κs. search needs)
-    (λ c. search needs)
     (λ c κs. search needs)
     (λ c κs. search needs)
-    (λ c. search needs)
     (λ c κs. search needs)
-    (λ c. search needs)
-    (λ c κs. search needs)
-    (λ c. search needs)
-    (λ c κs. omega (arith, c .before .before .before .before .before .before .before .before))
-    (λ c. search needs)
-    (λ c κs. omega (arith, c .before .before .before .before .before .before .before .before))
-    (λ c κs. omega (arith, c .before .before .before .before .before .before .before .before))
-    (λ c κs. omega (arith, c .before .before .before .before .before .before .before .before, c .before .before .before .before .before .before .before .before .before .before .before .before .before .before .before .before))
-    (λ c. search needs)
-    (λ c κs. omega (arith, c .before .before .before .before .before .before .before .before, c .before .before .before .before .before .before .before .before .before .before .before .before .before .before .before .before))
-    (λ c. search needs)
-    (λ c κs. omega (arith, c .before .before .before .before .before .before .before .before, c .before .before .before .before .before .before .before .before .before .before .before .before .before .before .before .before, c .before .before .before .before .before .before .before .before .before .before .before .before .before .before .before .before .before .before .before .before .before .before .before .before))
-    (λ c. search needs)
-    (λ c κs. omega (arith, c .before .before .before .before .before .before .before .before, c .before .before .before .before .before .before .before .before .before .before .before .before .before .before .before .before, c .before .before .before .before .before .before .before .before .before .before .before .before .before .before .before .before .before .before .before .before .before .before .before .before))
-    (λ c. search needs)
     returns)
