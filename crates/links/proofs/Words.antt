@@ -7,7 +7,7 @@ use mathlib.Core.Option.{Option, none, some}
 use native.Mathlib.Omega.{arith}
 use lib.ListN.{length, take}
 use lib.Dec.{eqb}
-use borrow.Author.Tests.{eq-eqb}
+use borrow.Author.Tests.{eq-eqb, ne-eqb}
 use Rattle.bits.specs.Bits.{leAt}
 use Rattle.findings.specs.Findings.{Finding, Found, finding, when, only, each, keep}
 use Rattle.pairs.specs.Pairs.{has}
@@ -19,10 +19,10 @@ use Rattle.book.specs.Maps.{lookup}
 use Rattle.book.specs.Book.{Bkey, Book, parentsOf}
 use Rattle.book.specs.Walk.{maybeU32}
 use Rattle.book.proofs.Maps.{word-is, word-absent}
-use Rattle.parents.specs.Answers.{rootIs, ancestorsOf}
+use Rattle.parents.specs.Answers.{rootIs, Lined}
 use Rattle.parents.specs.Roots.{above}
-use Rattle.parents.specs.declared.Ancestors.{Ancestors}
-use Rattle.parents.proofs.Laws.{among, root-is}
+use Rattle.parents.specs.declared.Line.{Line}
+use Rattle.parents.proofs.Laws.{among}
 use Rattle.snapshots.specs.Words.{holds, subvolumeWord, treeWord, depthWord, skipWords, idOf}
 use Rattle.links.specs.Links.{treeMap, treeOfMap, isThe, isOther, masterFindings, treeFindings, namesRoot, wrongDepth, badChild, badSkip, rootFindings, backrefFindings, childFindings, skipFindings, linkFindings, snapshotLinks}
 use Rattle.links.specs.Steps.{wordIn, rootIn, rootNamed, sameRoot}
@@ -39,15 +39,33 @@ root-back none = refl
 root-back (some r) = refl
 
 -- a child
-pub child-test : (t : List (ℕ × ℕ)) (id child : ℕ) {m : MaybeU32} {own : Bool} → m ≡ maybeU32 (lookup child t) → own ≡ isThe id (wordIn m)
-    → not (eqb child 0) && not own ≡ badChild t id child
+pub child-none : (t : List (ℕ × ℕ)) (id child : ℕ) → child ≡ 0 → false ≡ badChild t id child
 unfolding badChild
-child-test t id child m own = rw (own, m, word-back (lookup child t))
+child-none t id child e = rw (eq-eqb child 0 e)
 
--- a skip word
-pub skip-test : (id skip : ℕ) (ids : List ℕ) {above b : Bool} → above ≡ has skip ids → not (eqb skip 0) && not (eqb skip id || above) ≡ b → badSkip id ids skip ≡ b
+pub child-test : (t : List (ℕ × ℕ)) (id child : ℕ) {m : MaybeU32} {own : Bool} → (child ≡ 0 → ⊥) → m ≡ maybeU32 (lookup child t) → own ≡ isThe id (wordIn m)
+    → not own ≡ badChild t id child
+unfolding badChild
+child-test t id child e m own = rw (own, m, word-back (lookup child t), ne-eqb child 0 e)
+
+-- a skip word that is 0 or the snapshot, and another
+skip-first : (a b c : Bool) → a || b ≡ true → not a && not (b || c) ≡ false
+skip-first true b c e = refl
+skip-first false true c e = refl
+skip-first false false c e = let z : _≡_ {A = ℕ} 0 1 = cc in absurd (omega arith)
+
+skip-later : (a b c : Bool) → a || b ≡ false → not a && not (b || c) ≡ not c
+skip-later true b c e = let z : _≡_ {A = ℕ} 0 1 = cc in absurd (omega arith)
+skip-later false true c e = let z : _≡_ {A = ℕ} 0 1 = cc in absurd (omega arith)
+skip-later false false c e = refl
+
+pub skip-own : (id skip : ℕ) (ids : List ℕ) → eqb skip 0 || eqb skip id ≡ true → badSkip id ids skip ≡ false
 unfolding badSkip has
-skip-test id skip ids h e = rw (← h) e
+skip-own id skip ids e = skip-first (eqb skip 0) (eqb skip id) (has skip ids) e
+
+pub skip-test : (id skip : ℕ) (ids : List ℕ) {above b : Bool} → eqb skip 0 || eqb skip id ≡ false → above ≡ has skip ids → above ≡ b → badSkip id ids skip ≡ not b
+unfolding badSkip has
+skip-test id skip ids e h k = skip-later (eqb skip 0) (eqb skip id) (has skip ids) e ∙ ap not (sym h ∙ k)
 
 kept-length : (t : Bool) (x : ℕ) (xs : List ℕ) → length (cond t (x ∷ xs) xs) ≡ cond t 1 0 + length xs
 kept-length true x xs = omega arith
@@ -62,10 +80,14 @@ skip-count test k {a} {b} {c} ea eb ec x y z =
 
 -- ---- the findings
 
-pub backref-is : (k : Bkey) (id : ℕ) (t : List (ℕ × ℕ)) {w : ℕ} {m : MaybeU32} {other : Bool} → w ≡ subvolumeWord k → m ≡ maybeU32 (lookup w t) → other ≡ isOther id (wordIn m)
-    → when (not (eqb w 0) && other) (finding 43 id w) ≡ backrefFindings k id (lookup (subvolumeWord k) t)
+pub backref-is : (k : Bkey) (id : ℕ) (t : List (ℕ × ℕ)) {w : ℕ} {bad : Bool} → w ≡ subvolumeWord k → bad ≡ not (eqb w 0) && isOther id (lookup w t)
+    → when bad (finding 43 id w) ≡ backrefFindings k id (lookup (subvolumeWord k) t)
 unfolding backrefFindings
-backref-is k id t {w} e m other = rw (other, m, word-back (lookup w t), e)
+backref-is k id t e bad = rw (bad, e)
+
+pub other-is : (id : ℕ) (o : Option ℕ) (w : ℕ) {m : MaybeU32} {other : Bool} → (w ≡ 0 → ⊥) → m ≡ maybeU32 o → other ≡ isOther id (wordIn m)
+    → other ≡ not (eqb w 0) && isOther id o
+other-is id o w e m other = rw (other, m, word-back o, ne-eqb w 0 e)
 
 pub children-are : (k : Bkey) (id : ℕ) (t : List (ℕ × ℕ)) {l r : ℕ} {a b : Bool} → l ≡ leAt (k .value) 8 4 → r ≡ leAt (k .value) 12 4 → a ≡ badChild t id l → b ≡ badChild t id r
     → when a (finding 44 id l) ++ when b (finding 44 id r) ≡ childFindings k id t
@@ -90,22 +112,22 @@ unfolding rootFindings
 root-shown k id t root {w} ew ed m same wrong = rw (same, m, word-back (rootNamed (lookup w t)), names-same (lookup w t) root, wrong, ew, ed)
 
 -- the array has the ids above a snapshot, each perhaps more than once
-module _ (t : List (ℕ × ℕ)) (k : Bkey) (id : ℕ) {a : Ancestors} (e : a ≡ ancestorsOf t id) where
-  skip-same : (skip : ℕ) → badSkip id (take (a .len) (a .ids)) skip ≡ badSkip id (above t id) skip
+module _ (t : List (ℕ × ℕ)) (k : Bkey) {ids : List ℕ} {l : Line} (h : Lined t ids l) where
+  skip-same : (skip : ℕ) → badSkip (l .id) (take (l .len) ids) skip ≡ badSkip (l .id) (above t (l .id)) skip
   unfolding badSkip has
-  skip-same skip = same-or-not skip id (λ s. rw (eq-eqb skip id s)) (λ d. rw (among t id e d))
+  skip-same skip = same-or-not skip (l .id) (λ s. rw (eq-eqb skip (l .id) s)) (λ d. rw (among t h d))
 
-  skips-same : skipFindings k id (take (a .len) (a .ids)) ≡ skipFindings k id (above t id)
+  skips-same : skipFindings k (l .id) (take (l .len) ids) ≡ skipFindings k (l .id) (above t (l .id))
   unfolding skipFindings
   skips-same =
-      ap (λ (test : ℕ → Bool). when (not (eqb (length (keep test (skipWords k))) 0)) (finding 45 id (length (keep test (skipWords k))))) (λ i skip. skip-same skip i)
+      ap (λ (test : ℕ → Bool). when (not (eqb (length (keep test (skipWords k))) 0)) (finding 45 (l .id) (length (keep test (skipWords k))))) (λ i skip. skip-same skip i)
 
-pub links-shown : (b : Book) (t : List (ℕ × ℕ)) (k : Bkey) {id : ℕ} {a : Ancestors} → parentsOf b ≡ t → id ≡ idOf k → a ≡ ancestorsOf t id
-    → rootFindings k id (lookup (treeWord k) (treeMap b)) (rootIn (a .root))
-    ++ (backrefFindings k id (lookup (subvolumeWord k) (b .subvolumes)) ++ (childFindings k id (parentsOf b) ++ skipFindings k id (take (a .len) (a .ids))))
+pub links-shown : (b : Book) (t : List (ℕ × ℕ)) (k : Bkey) {ids : List ℕ} {l : Line} → parentsOf b ≡ t → l .id ≡ idOf k → Lined t ids l
+    → rootFindings k (l .id) (lookup (treeWord k) (treeMap b)) (rootIn (l .root))
+    ++ (backrefFindings k (l .id) (lookup (subvolumeWord k) (b .subvolumes)) ++ (childFindings k (l .id) (parentsOf b) ++ skipFindings k (l .id) (take (l .len) ids)))
     ≡ linkFindings b k
 unfolding linkFindings
-links-shown b t k {id} p i e = rw (skips-same t k id e, root-is t id e, root-back _, p, i)
+links-shown b t k p i h = rw (skips-same t k h, h .root-is, root-back _, p, i)
 
 -- ---- the trees
 

@@ -1,17 +1,19 @@
 // The rule on the links between snapshots and their trees.
 ghost use mathlib.Core.Path.{_≡_};
 ghost use mathlib.Core.List.{[], _∷_, _++_};
-ghost use mathlib.Core.Bool.{cond};
+ghost use mathlib.Core.Bool.{cond, not, _&&_};
 ghost use Prim.Native.Nat.{_+_, _*_, _%_, _^_, _<_, _≤_};
 ghost use lib.ListN.{length, take, drop, getD};
+ghost use lib.Dec.{eqb};
 ghost use Rattle.findings.specs.Findings.{finding, only, each, keep, Found, Added};
 ghost use Rattle.pairs.specs.Pairs.{pairsOf};
 ghost use Rattle.book.specs.Maps.{lookup};
-ghost use Rattle.book.specs.Book.{bookOf, parentsOf};
+ghost use Rattle.book.specs.Book.{wordsFrom, bookOf, parentsOf};
 ghost use Rattle.book.specs.Walk.{Opened, maybeU32};
 ghost use Rattle.walk.specs.Keys.{keyAt, AtKey, gather};
 ghost use Rattle.maps.specs.Places.{placePair};
 ghost use Rattle.maps.specs.Sorted.{lastAt};
+ghost use Rattle.parents.specs.Answers.{Lined};
 ghost use Rattle.snapshots.specs.Words.{holds, subvolumeWord, treeWord, skipWords, idOf};
 ghost use Rattle.links.specs.Links.{
   treeMap,
@@ -38,7 +40,14 @@ use book::Places;
 use findings::emit;
 use findings::emit_if;
 use pairs::MaybeU64;
+use parents::Line;
 use parents::Root;
+
+// How many findings there are with those of a key, and the line of the last snapshot.
+struct Shown {
+    found: usize,
+    line: Line,
+}
 
 // The id of the key at byte p: the low 32 bits of its offset.
 fn key_id(book: &[u8], p: usize, f: KeyFront) -> u32
@@ -102,28 +111,43 @@ fn bad_child(book: &[u8], h: Header, at: Places, id: u32, child: u32) -> bool
     requires { ⌜ Opened (now book) h at ⌝ }
     ensures { λ r. ⌜ r ≡ badChild (parentsOf (bookOf (now (book .entry)))) id child ⌝ }
 {
+    if child == 0 {
+        return false;
+    }
     let parent = parents::parent_of(book, at.parents, h.parents as usize, child);
-    let own = is_the(parent, id);
-    (child != 0) & !own
+    !is_the(parent, id)
+}
+
+// Whether a subvolume is there that has another snapshot than this one.
+fn bad_backref(book: &[u8], h: Header, at: Places, id: u32, subvolume: u32) -> bool
+    requires { ⌜ Opened (now book) h at ⌝ }
+    ensures { λ r. ⌜ r ≡ not (eqb subvolume 0) && isOther id (lookup subvolume (bookOf (now (book .entry)) .subvolumes)) ⌝ }
+{
+    if subvolume == 0 {
+        return false;
+    }
+    is_other(snapshot_of(book, h, at, subvolume), id)
 }
 
 // 1 for a skip word that names neither the snapshot nor one of the first len ids, else 0.
-fn count_skip(ids: [u32; 1024], len: usize, id: u32, skip: u32) -> u64
-    requires { ⌜ len ≤ 1024 ⌝ }
-    ensures counted { λ r. ⌜ r ≡ cond (badSkip id (take len ids) skip) 1 0 ⌝ }
+fn count_skip(ids: &[u32; 1024], len: usize, id: u32, skip: u32) -> u64
+    requires { ⌜ (len ≤ 1024) × (length (now ids) ≡ 1024) ⌝ }
+    ensures counted { λ r. ⌜ r ≡ cond (badSkip id (take len (now (ids .entry))) skip) 1 0 ⌝ }
     ensures few { λ r. ⌜ r ≤ 1 ⌝ }
 {
-    let above = parents::contains(ids, len, skip);
-    if (skip != 0) & !((skip == id) | above) {
-        return 1;
+    if (skip == 0) | (skip == id) {
+        return 0;
     }
-    0
+    if parents::is_among(ids, len, skip) {
+        return 0;
+    }
+    1
 }
 
 // How many of the three skip words of the snapshot at byte p are bad.
-fn count_skips(book: &[u8], p: usize, f: KeyFront, ids: [u32; 1024], len: usize, id: u32) -> u64
-    requires { ⌜ AtKey (now book) p f × (40 ≤ f .len) × (len ≤ 1024) ⌝ }
-    ensures { λ r. ⌜ r ≡ length (keep (badSkip id (take len ids)) (skipWords (keyAt (now (book .entry)) p))) ⌝ }
+fn count_skips(book: &[u8], p: usize, f: KeyFront, ids: &[u32; 1024], len: usize, id: u32) -> u64
+    requires { ⌜ AtKey (now book) p f × (40 ≤ f .len) × (len ≤ 1024) × (length (now ids) ≡ 1024) ⌝ }
+    ensures { λ r. ⌜ r ≡ length (keep (badSkip id (take len (now (ids .entry)))) (skipWords (keyAt (now (book .entry)) p))) ⌝ }
 {
     let one = count_skip(ids, len, id, walk::key_word(book, p, f, 28));
     let two = count_skip(ids, len, id, walk::key_word(book, p, f, 32));
@@ -147,15 +171,8 @@ fn show_backref(
     ensures few { λ r. ⌜ r ≤ m + 1 ⌝ }
 {
     let subvolume = walk::key_word(book, p, f, 16);
-    let other = is_other(snapshot_of(book, h, at, subvolume), id);
-    emit_if(
-        out,
-        m,
-        (subvolume != 0) & other,
-        43,
-        id as u64,
-        subvolume as u64,
-    )
+    let bad = bad_backref(book, h, at, id, subvolume);
+    emit_if(out, m, bad, 43, id as u64, subvolume as u64)
 }
 
 // The findings of a snapshot's two children.
@@ -187,13 +204,13 @@ fn show_skips(
     p: usize,
     f: KeyFront,
     id: u32,
-    ids: [u32; 1024],
+    ids: &[u32; 1024],
     len: usize,
     out: &mut [u8],
     m: usize,
 ) -> usize
-    requires { ⌜ AtKey (now book) p f × (40 ≤ f .len) × (len ≤ 1024) × (m < 2 ^ 62) ⌝ }
-    ensures added { λ r. ⌜ Added (now (out .entry)) m (skipFindings (keyAt (now (book .entry)) p) id (take len ids)) r (now (out .exit)) ⌝ }
+    requires { ⌜ AtKey (now book) p f × (40 ≤ f .len) × (len ≤ 1024) × (length (now ids) ≡ 1024) × (m < 2 ^ 62) ⌝ }
+    ensures added { λ r. ⌜ Added (now (out .entry)) m (skipFindings (keyAt (now (book .entry)) p) id (take len (now (ids .entry)))) r (now (out .exit)) ⌝ }
     ensures few { λ r. ⌜ r ≤ m + 1 ⌝ }
 {
     let bad = count_skips(book, p, f, ids, len, id);
@@ -300,7 +317,7 @@ fn show_root(
     emit_if(out, found, wrong, 42, id as u64, depth as u64)
 }
 
-// The findings of the snapshot at byte p.
+// The findings of the snapshot at byte p, by its line.
 fn show_links(
     book: &[u8],
     h: Header,
@@ -309,24 +326,25 @@ fn show_links(
     n: usize,
     p: usize,
     f: KeyFront,
+    line: Line,
+    ids: &[u32; 1024],
     out: &mut [u8],
     m: usize,
 ) -> usize
     requires { ⌜ Ready (now book) h at (now work) n × AtKey (now book) p f × (40 ≤ f .len) × (m < 2 ^ 61) ⌝ }
+    requires { ⌜ Lined (wordsFrom (now book) (h .parents) (at .parents)) (now ids) line × (line .id ≡ idOf (keyAt (now book) p)) ⌝ }
     ensures added { λ r. ⌜ Added (now (out .entry)) m (linkFindings (bookOf (now (book .entry))) (keyAt (now (book .entry)) p)) r (now (out .exit)) ⌝ }
     ensures few { λ r. ⌜ r ≤ m + 6 ⌝ }
 {
-    let id = key_id(book, p, f);
-    let above = parents::ancestors_of(book, at.parents, h.parents as usize, id);
-    let root = above.root;
+    let id = line.id;
+    let root = line.root;
     let m = show_root(book, h, at, work, n, p, f, id, root, out, m);
     let m = show_backref(book, h, at, p, f, id, out, m);
     let m = show_children(book, h, at, p, f, id, out, m);
-    let ids = above.ids;
-    show_skips(book, p, f, id, ids, above.len, out, m)
+    show_skips(book, p, f, id, ids, line.len, out, m)
 }
 
-// The findings of the key at byte p, if it is a snapshot with all its words.
+// The findings of the key at byte p, if it is a snapshot with all its words: its line is found from that of the snapshot before.
 fn show_snapshot(
     book: &[u8],
     h: Header,
@@ -335,17 +353,24 @@ fn show_snapshot(
     n: usize,
     p: usize,
     f: KeyFront,
+    line: Line,
+    ids: &mut [u32; 1024],
     out: &mut [u8],
     m: usize,
-) -> usize
+) -> Shown
     requires { ⌜ Ready (now book) h at (now work) n × AtKey (now book) p f × (m < 2 ^ 61) ⌝ }
-    ensures added { λ r. ⌜ Added (now (out .entry)) m (only (holds 9 22 40 (keyAt (now (book .entry)) p)) (linkFindings (bookOf (now (book .entry))) (keyAt (now (book .entry)) p))) r (now (out .exit)) ⌝ }
-    ensures few { λ r. ⌜ r ≤ m + 6 ⌝ }
+    requires { ⌜ Lined (wordsFrom (now book) (h .parents) (at .parents)) (now ids) line × (line .near ≤ h .parents) ⌝ }
+    ensures added { λ r. ⌜ Added (now (out .entry)) m (only (holds 9 22 40 (keyAt (now (book .entry)) p)) (linkFindings (bookOf (now (book .entry))) (keyAt (now (book .entry)) p))) (r .found) (now (out .exit)) ⌝ }
+    ensures few { λ r. ⌜ r .found ≤ m + 6 ⌝ }
+    ensures lined { λ r. ⌜ Lined (wordsFrom (now (book .entry)) (h .parents) (at .parents)) (now (ids .exit)) (r .line) × (r .line .near ≤ h .parents) ⌝ }
 {
     if ((f.btree == 9) & (f.key_type == 22)) & (40 <= f.len) {
-        return show_links(book, h, at, work, n, p, f, out, m);
+        let id = key_id(book, p, f);
+        let next = parents::line_beside(book, at.parents, h.parents as usize, line, id, ids);
+        let found = show_links(book, h, at, work, n, p, f, next, ids, out, m);
+        return Shown { found, line: next };
     }
-    m
+    Shown { found: m, line }
 }
 
 // The findings of the snapshots, in key order.
@@ -361,12 +386,16 @@ fn show_snapshots(
     ensures found { λ r. ⌜ Found (now (out .entry)) (each (λ _ k. only (holds 9 22 40 k) (linkFindings (bookOf (now (book .entry))) k)) 0 (bookOf (now (book .entry)) .keys)) r (now (out .exit)) ⌝ }
     ensures few { λ r. ⌜ r ≤ h .keys * 6 ⌝ }
 {
+    let mut ids = [0u32; 1024];
+    let mut line = parents::line_of(book, at.parents, h.parents as usize, 0, 0, &mut ids);
     let mut found: usize = 0;
     let mut left = h.keys;
     let mut p = at.keys;
     while 0 < left {
         let f = book::key_front(book, p);
-        found = show_snapshot(book, h, at, work, n, p, f, out, found);
+        let shown = show_snapshot(book, h, at, work, n, p, f, line, &mut ids, out, found);
+        found = shown.found;
+        line = shown.line;
         p = p + 28 + f.len;
         left -= 1;
     }

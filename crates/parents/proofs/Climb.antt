@@ -49,13 +49,13 @@ one-less links l = omega arith
 
 -- what an answer of `parent_of` says of `at`: its parent is 0, another id, or absent
 module _ (t : List (ℕ × ℕ)) (at : ℕ) {r : MaybeU32} (e : r ≡ maybeU32 (lookup at t)) where
-  top-is : {p : ℕ} → r ≡ Is p → p ≡ 0 → lookup at t ≡ some 0
+  pub top-is : {p : ℕ} → r ≡ Is p → p ≡ 0 → lookup at t ≡ some 0
   top-is f z = word-is _ (sym e ∙ f) ∙ ap some z
 
-  link-is : {p : ℕ} → r ≡ Is p → (p ≡ 0 → ⊥) → link t at ≡ some p
+  pub link-is : {p : ℕ} → r ≡ Is p → (p ≡ 0 → ⊥) → link t at ≡ some p
   link-is f z = link-to t at (word-is _ (sym e ∙ f)) z
 
-  absent-is : r ≡ Absent → lookup at t ≡ none
+  pub absent-is : r ≡ Absent → lookup at t ≡ none
   absent-is f = word-absent _ (sym e ∙ f)
 
 module _ {t : List (ℕ × ℕ)} {id at links : ℕ} (c : Climbed t id at links) {r : MaybeU32} (e : r ≡ maybeU32 (lookup at t)) where

@@ -1,8 +1,10 @@
 -- What callers cite of the walk:
 --     root-at, root-none    what the answer of `root_of` says of the root
 --     root-all              with a root, `above` is the whole chain, and has as many ids as the root has links
--- and of an answer of `ancestors_of`:
+-- of a line:
 --     among                 an id other than the snapshot is in its array exactly if it is one of `above`
+--     lined-few             its length is what `is_among` requires
+-- and of an answer of `ancestors_of`:
 --     len-le                its length is what `contains` requires
 --     root-is, root-len     its root, and that its length is the number of links to it
 use Prim.Native.Nat.{ℕ, zero, suc, _-_, _≤_, zero-le, suc-le-suc}
@@ -19,9 +21,10 @@ use Rattle.pairs.specs.Pairs.{has}
 use Rattle.pairs.proofs.Order.{tested, same-or-not}
 use Rattle.book.specs.Maps.{lookup}
 use Rattle.parents.specs.Roots.{oneMore, rootWithin, rootOf, followed, above}
-use Rattle.parents.specs.Answers.{rootIs, chain, padded, ancestorsOf}
+use Rattle.parents.specs.Answers.{rootIs, chain, padded, ancestorsOf, Lined}
 use Rattle.parents.specs.declared.Root.the-variants.{At, NoRoot}
 use Rattle.parents.specs.declared.Ancestors.{Ancestors}
+use Rattle.parents.specs.declared.Line.{Line}
 use Rattle.parents.proofs.Links.{clash, link, by-link, by-step, link-top, chain-more, chain-end, followed-more, followed-end, root-more, root-full, root-here, root-absent}
 
 pub root-at : (o : Option (ℕ × ℕ)) {root links : ℕ} → rootIs o ≡ At root links → o ≡ some (root, links)
@@ -124,13 +127,13 @@ module _ (t : List (ℕ × ℕ)) where
       let same = same-ids s 1024 id (id ∷ []) (linked-one id) (has-head id [] refl) in
       sym (rw (alone, or-false (has s (followed t (id ∷ []) id 1024)), or-false (has s (chain t id 1024))) at same)
 
-  chain-le : (n at : ℕ) → length (chain t at n) ≤ n
+  pub chain-le : (n at : ℕ) → length (chain t at n) ≤ n
   unfolding chain
   chain-le zero at = zero-le
   chain-le (suc n) at =
       by-step t at (λ e. rw (chain-end t at (suc n) e) zero-le) (λ p e. rw (chain-more t at n e) (suc-le-suc (chain-le n p)))
 
-  one-more : (o : Option (ℕ × ℕ)) {r : ℕ × ℕ} → oneMore o ≡ some r → (q : ℕ × ℕ) × (o ≡ some q) × (suc (q .1) ≡ r .1)
+  pub one-more : (o : Option (ℕ × ℕ)) {r : ℕ × ℕ} → oneMore o ≡ some r → (q : ℕ × ℕ) × (o ≡ some q) × (suc (q .1) ≡ r .1)
   unfolding oneMore
   one-more none e = clash (cc)
   one-more (some q) {r} e = let s : _≡_ {A = ℕ × ℕ} (q .0, suc (q .1)) r = cc in (q, refl, ap (λ (x : ℕ × ℕ). x .1) s)
@@ -155,7 +158,7 @@ module _ (t : List (ℕ × ℕ)) where
       let s : _≡_ {A = ℕ × ℕ} (at, 0) r = cc (root-here t at n top) in
       rw (chain-end t at n (link-top t at top)) (ap (λ (x : ℕ × ℕ). x .1) s)
 
-  root-length : (n at : ℕ) {r : ℕ × ℕ} → rootWithin t n at ≡ some r → length (chain t at n) ≡ r .1
+  pub root-length : (n at : ℕ) {r : ℕ × ℕ} → rootWithin t n at ≡ some r → length (chain t at n) ≡ r .1
   root-length zero at e =
       by-link t at (λ a. clash (cc (root-absent t at 0 a))) (here-length 0 at e) (λ p a. clash (cc (root-full t at a)))
   root-length (suc n) at e =
@@ -169,15 +172,20 @@ module _ (t : List (ℕ × ℕ)) where
       let all = no-repeat 1024 id (id ∷ []) (linked-one id) (has-head id [] refl) e in
       (all, rw all (root-length 1024 id e))
 
+  -- ---- a line
+  module _ {ids : List ℕ} {l : Line} (h : Lined t ids l) where
+    pub among : {s : ℕ} → (s ≡ l .id → ⊥) → has s (take (l .len) ids) ≡ has s (above t (l .id))
+    among {s} other = rw (h .ids-are) (among-chain (l .id) s other)
+
+    pub lined-few : l .len ≤ 1024
+    lined-few = rw (h .len-is) (chain-le 1024 (l .id))
+
   -- ---- what `ancestors_of` answers
   module _ (id : ℕ) {a : Ancestors} (e : a ≡ ancestorsOf t id) where
     -- the array begins with the ids on the way
     pub array-is : take (a .len) (a .ids) ≡ chain t id 1024
     unfolding ancestorsOf padded
     array-is = rw e (take-append-seam (chain t id 1024) (replicate (1024 - length (chain t id 1024)) 0))
-
-    pub among : {s : ℕ} → (s ≡ id → ⊥) → has s (take (a .len) (a .ids)) ≡ has s (above t id)
-    among {s} other = rw array-is (among-chain id s other)
 
     pub len-le : a .len ≤ 1024
     unfolding ancestorsOf

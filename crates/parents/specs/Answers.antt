@@ -2,12 +2,14 @@
 use Prim.Native.Nat.{ℕ, zero, suc, _-_}
 use mathlib.Core.List.{List, [], _∷_, _++_}
 use mathlib.Core.Option.{Option, none, some}
-use lib.ListN.{length, replicate}
+use mathlib.Core.Path.{_≡_}
+use lib.ListN.{length, replicate, take}
 use Rattle.book.specs.Maps.{lookup}
 use Rattle.parents.specs.Roots.{rootOf}
 use Rattle.parents.specs.declared.Root.{Root}
 use Rattle.parents.specs.declared.Root.the-variants.{At, NoRoot}
 use Rattle.parents.specs.declared.Ancestors.{Ancestors}
+use Rattle.parents.specs.declared.Line.{Line}
 
 -- a root and the links to it, or none, as the enum
 unfoldable pub rootIs : Option (ℕ × ℕ) → Root
@@ -36,3 +38,10 @@ ancestorsOf parents id = record {
   len = length (chain parents id 1024);
   root = rootIs (rootOf parents id);
 }
+
+-- an array of 1,024 ids begins with those above the line's snapshot, and the line has their number and the root
+pub record Lined (parents : List (ℕ × ℕ)) (ids : List ℕ) (l : Line) : Type 0 where
+  pub full : length ids ≡ 1024
+  pub ids-are : take (l .len) ids ≡ chain parents (l .id) 1024
+  pub len-is : l .len ≡ length (chain parents (l .id) 1024)
+  pub root-is : l .root ≡ rootIs (rootOf parents (l .id))

@@ -1,13 +1,15 @@
 // The parents of a book: an id's parent through a view of the table, the root above an id, and an id's ancestors.
 ghost use mathlib.Core.Path.{_≡_};
-ghost use Prim.Native.Nat.{_≤_};
-ghost use lib.ListN.{take};
+ghost use mathlib.Core.List.{_∷_};
+ghost use Prim.Native.Nat.{_+_, _≤_, _<_, min};
+ghost use lib.ListN.{length, take, drop};
 ghost use Rattle.pairs.specs.Pairs.{has};
 ghost use Rattle.book.specs.Maps.{lookup};
 ghost use Rattle.book.specs.Book.{wordsTable, wordsFrom};
 ghost use Rattle.book.specs.Walk.{Rising, maybeU32};
 ghost use Rattle.parents.specs.Roots.{rootOf};
-ghost use Rattle.parents.specs.Answers.{rootIs, ancestorsOf};
+ghost use Rattle.parents.specs.Answers.{rootIs, ancestorsOf, Lined};
+ghost use Rattle.parents.specs.Steps.{isRooted, withLinks, rootBelow};
 use book::MaybeU32;
 use book::WordAt;
 
@@ -29,6 +31,15 @@ pub struct Ancestors {
     pub ids: [u32; 1024],
     pub len: usize,
     pub root: Root,
+}
+
+// What is known of the ids above a snapshot that an array begins with: the snapshot, how many they are, and the root. From the place `near` the
+// table is searched for the next snapshot.
+pub struct Line {
+    pub id: u32,
+    pub len: usize,
+    pub root: Root,
+    pub near: usize,
 }
 
 // A view of the table.
@@ -139,17 +150,213 @@ pub fn ancestors_of(book: &[u8], start: usize, count: usize, id: u32) -> Ancesto
     }
 }
 
+// Whether `s` is among the first `len` ids of a lent array: all are looked at, so that many are compared at once.
+pub fn is_among(ids: &[u32; 1024], len: usize, s: u32) -> bool
+    requires { ⌜ (len ≤ 1024) × (length (now ids) ≡ 1024) ⌝ }
+    ensures { λ r. ⌜ r ≡ has s (take len (now (ids .entry))) ⌝ }
+{
+    let mut found = false;
+    let mut i = 0;
+    while i < len {
+        found = found | (s == ids[i]);
+        i += 1;
+    }
+    found
+}
+
 // Whether `s` is among the first `len` ids.
 pub fn contains(ids: [u32; 1024], len: usize, s: u32) -> bool
     requires { ⌜ len ≤ 1024 ⌝ }
     ensures { λ r. ⌜ r ≡ has s (take len ids) ⌝ }
 {
+    is_among(&ids, len, s)
+}
+
+// Puts `id` first, and the others of the first `end` ids one place up.
+fn put_first(ids: &mut [u32; 1024], end: usize, id: u32)
+    requires { ⌜ (end ≤ 1024) × (length (now ids) ≡ 1024) ⌝ }
+    ensures { λ _. ⌜ (take end (now (ids .exit)) ≡ take end (id ∷ now (ids .entry))) × (length (now (ids .exit)) ≡ 1024) ⌝ }
+{
     let mut i = 0;
-    while i < len {
-        if ids[i] == s {
-            return true;
-        }
+    let mut before = id;
+    while i < end {
+        let here = ids[i];
+        ids[i] = before;
+        before = here;
         i += 1;
     }
-    false
+}
+
+// Takes the first id away, and puts the `end` ids after it one place down.
+fn take_first(ids: &mut [u32; 1024], end: usize)
+    requires { ⌜ (end < 1024) × (length (now ids) ≡ 1024) ⌝ }
+    ensures { λ _. ⌜ (take end (now (ids .exit)) ≡ take end (drop 1 (now (ids .entry)))) × (length (now (ids .exit)) ≡ 1024) ⌝ }
+{
+    let mut i = 0;
+    while i < end {
+        let next = ids[i + 1];
+        ids[i] = next;
+        i += 1;
+    }
+}
+
+// One more than `len`, at most 1,024.
+fn one_longer(len: usize) -> usize
+    ensures { λ r. ⌜ r ≡ min (len + 1) 1024 ⌝ }
+{
+    if len < 1024 { len + 1 } else { 1024 }
+}
+
+// Whether a root is there.
+fn is_rooted(root: Root) -> bool
+    ensures { λ r. ⌜ r ≡ isRooted root ⌝ }
+{
+    match root {
+        Root::At { root: _, links: _ } => true,
+        Root::NoRoot => false,
+    }
+}
+
+// The root of a child, by its parent's: a link more, and none past 1,024.
+fn root_below(root: Root) -> Root
+    ensures { λ r. ⌜ r ≡ rootBelow root ⌝ }
+{
+    let Root::At { root: top, links } = root else {
+        return Root::NoRoot;
+    };
+    if links < 1024 {
+        return Root::At {
+            root: top,
+            links: links + 1,
+        };
+    }
+    Root::NoRoot
+}
+
+// A root with this number of links to it, where a root is there.
+fn with_links(root: Root, links: u32) -> Root
+    ensures { λ r. ⌜ r ≡ withLinks root links ⌝ }
+{
+    match root {
+        Root::At {
+            root: top,
+            links: _,
+        } => Root::At { root: top, links },
+        Root::NoRoot => Root::NoRoot,
+    }
+}
+
+// The line of `id`, by a walk of its chain; `near` is a place near its own in the table.
+pub fn line_of(
+    book: &[u8],
+    start: usize,
+    count: usize,
+    near: usize,
+    id: u32,
+    ids: &mut [u32; 1024],
+) -> Line
+    requires { ⌜ Rising wordsTable (now book) start count × (near ≤ count) ⌝ }
+    ensures lined { λ r. ⌜ Lined (wordsFrom (now (book .entry)) count start) (now (ids .exit)) r ⌝ }
+    ensures same { λ r. ⌜ (r .id ≡ id) × (r .near ≤ count) ⌝ }
+{
+    let above = ancestors_of(book, start, count, id);
+    let all = above.ids;
+    *ids = all;
+    let root = above.root;
+    Line {
+        id,
+        len: above.len,
+        root,
+        near,
+    }
+}
+
+// The line of `id` from that of another snapshot, by the parent of `id`: where this is the other snapshot it is put first, and where it is the
+// other's parent too the ids are the same.
+fn line_by_parent(
+    book: &[u8],
+    start: usize,
+    count: usize,
+    line: Line,
+    id: u32,
+    ids: &mut [u32; 1024],
+) -> Line
+    requires { ⌜ Rising wordsTable (now book) start count × Lined (wordsFrom (now book) count start) (now ids) line × (line .near ≤ count) ⌝ }
+    ensures lined { λ r. ⌜ Lined (wordsFrom (now (book .entry)) count start) (now (ids .exit)) r ⌝ }
+    ensures same { λ r. ⌜ (r .id ≡ id) × (r .near ≤ count) ⌝ }
+{
+    let found = parent_near(book, start, count, line.near, id);
+    let near = found.at;
+    let parent = found.word;
+    let MaybeU32::Is(p) = parent else {
+        return Line {
+            id,
+            len: 0,
+            root: Root::NoRoot,
+            near,
+        };
+    };
+    if p == 0 {
+        return Line {
+            id,
+            len: 0,
+            root: Root::At { root: id, links: 0 },
+            near,
+        };
+    }
+    let root = line.root;
+    if p == line.id {
+        let len = one_longer(line.len);
+        put_first(ids, len, p);
+        let root = root_below(root);
+        return Line {
+            id,
+            len,
+            root,
+            near,
+        };
+    }
+    let len = line.len;
+    if (0 < len) & (ids[0] == p) {
+        return Line {
+            id,
+            len,
+            root,
+            near,
+        };
+    }
+    line_of(book, start, count, near, id, ids)
+}
+
+// The line of `id` from that of another snapshot: of the same, or of a child with a root, from which the first id is taken away; else by the
+// parent of `id`.
+pub fn line_beside(
+    book: &[u8],
+    start: usize,
+    count: usize,
+    line: Line,
+    id: u32,
+    ids: &mut [u32; 1024],
+) -> Line
+    requires { ⌜ Rising wordsTable (now book) start count × Lined (wordsFrom (now book) count start) (now ids) line × (line .near ≤ count) ⌝ }
+    ensures lined { λ r. ⌜ Lined (wordsFrom (now (book .entry)) count start) (now (ids .exit)) r ⌝ }
+    ensures same { λ r. ⌜ (r .id ≡ id) × (r .near ≤ count) ⌝ }
+{
+    if id == line.id {
+        return line;
+    }
+    let root = line.root;
+    let rooted = is_rooted(root);
+    if (rooted & (0 < line.len)) & (ids[0] == id) {
+        let len = line.len - 1;
+        take_first(ids, len);
+        let root = with_links(root, len as u32);
+        return Line {
+            id,
+            len,
+            root,
+            near: line.near,
+        };
+    }
+    line_by_parent(book, start, count, line, id, ids)
 }

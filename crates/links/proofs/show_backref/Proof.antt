@@ -8,8 +8,7 @@ use Rattle.links.proofs.show_backref.Tie as tie
 
 returns : tie.Need-returns
 returns c = (
-  added-as (backref-is _ _ _ (c .before .before .before .before .before .before .key-word .ensures) (c .before .before .before .before .before .snapshot-of .ensures) (c .before .before .before .before .is-other .ensures))
-      (c .before .before .emit-if .ensures .0),
+  added-as (backref-is _ _ _ (c .before .before .before .before .before .key-word .ensures) (c .before .before .before .before .bad-backref .ensures)) (c .before .before .emit-if .ensures .0),
   omega arith,
 )
 
@@ -17,7 +16,6 @@ pub show-backref-spec : {M : Type 1} → statement M
 show-backref-spec =
     tie.close
     (tie.spec
-    (λ c κs. search needs)
     (λ c κs. search needs)
     (λ c κs. search needs)
     (λ c. search needs)

@@ -1,18 +1,42 @@
 -- By the test.
-use mathlib.Core.Path.{refl}
+use mathlib.Core.Path.{refl, _∙_}
 use native.Mathlib.Omega.{arith}
 use Rattle.findings.proofs.Laws.{added-only, added-not}
+use Rattle.book.proofs.Walk.{parts}
 use Rattle.walk.proofs.Gather.{at-least}
 use Rattle.links.proofs.Trees.{at-holds}
 use borrow.Author.Needs.{needs}
 use Rattle.links.proofs.show_snapshot.Statement.{statement}
 use Rattle.links.proofs.show_snapshot.Tie as tie
 
+show-links-requires : tie.Need-show-links-requires
+show-links-requires c κs =
+    let t = c .before .before .before .before .before .before .before .before .before .before .before .before .before in
+    let next = c .before .before .line-beside .ensures in
+    let id = c .before .before .before .before .before .key-id .ensures in
+    ((t .pre .0 .0, t .pre .0 .1, at-least (t .pre .0 .1) 9 22 40 (c .before .before .before .before .before .before .if1 .taken), t .pre .0 .2), (next .0, next .1 .0 ∙ id))
+
+returns : tie.Need-returns
+returns c =
+    let t = c .before .before .before .before .before .before .before .before .before .before .before .before .before .before .before .before in
+    let next = c .before .before .before .before .before .line-beside .ensures in (
+      added-only refl (at-holds (t .pre .0 .1) 9 22 40 (c .before .before .before .before .before .before .before .before .before .if1 .taken)) (c .before .before .show-links .ensures .0),
+      (c .before .before .show-links .ensures .1, (next .0, next .1 .1)),
+    )
+
+returns-2 : tie.Need-returns-2
+returns-2 c =
+    let t = c .before .before .before .before .before .before .before in
+    (added-not _ refl (at-holds (t .pre .0 .1) 9 22 40 (c .if1 .left)), (omega arith, t .pre .1))
+
 pub show-snapshot-spec : {M : Type 1} → statement M
 show-snapshot-spec =
     tie.close
     (tie.spec
-    (λ c κs. let t = c .before .before .before .before .before .before .before .before in (t .pre .0, t .pre .1, at-least (t .pre .1) 9 22 40 (c .before .if1 .taken), t .pre .2))
+    (λ c κs. search needs)
     (λ c. search needs)
-    (λ c. let t = c .before .before .before .before .before .before .before .before .before .before .before in (added-only refl (at-holds (t .pre .1) 9 22 40 (c .before .before .before .before .if1 .taken)) (c .before .before .show-links .ensures .0), omega arith))
-    (λ c. (added-not _ refl (at-holds (c .before .before .before .before .before .before .before .pre .1) 9 22 40 (c .if1 .left)), omega arith)))
+    (λ c κs. let t = c .before .before .before .before .before .before .before .before .before .before in (parts (t .pre .0 .0 .opened) .parents-rise, t .pre .1 .0, t .pre .1 .1))
+    show-links-requires
+    (λ c. search needs)
+    returns
+    returns-2)
