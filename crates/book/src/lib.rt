@@ -457,7 +457,7 @@ fn words_pass(book: &[u8], start: usize, count: u16) -> bool
 }
 
 // The first refusal of a table of two words: it is looked for only where the table does not pass.
-fn words_verdict(book: &[u8], start: usize, count: u16) -> Verdict
+fn pairs_verdict(book: &[u8], start: usize, count: u16) -> Verdict
     requires { ⌜ (length (now book) ≤ 1048576) × (start < 2 ^ 31) ⌝ }
     ensures { λ r. ⌜ r ≡ tableVerdict wordsTable (now (book .entry)) start count start ⌝ }
 {
@@ -470,6 +470,17 @@ fn words_verdict(book: &[u8], start: usize, count: u16) -> Verdict
         typed: false,
     };
     entries_verdict(book, words, start, count)
+}
+
+// The same, at once where the table has no entries.
+fn words_verdict(book: &[u8], start: usize, count: u16) -> Verdict
+    requires { ⌜ (length (now book) ≤ 1048576) × (start < 2 ^ 31) ⌝ }
+    ensures { λ r. ⌜ r ≡ tableVerdict wordsTable (now (book .entry)) start count start ⌝ }
+{
+    if count == 0 {
+        return Verdict::Passed;
+    }
+    pairs_verdict(book, start, count)
 }
 
 // The front of the key at byte `at`.

@@ -523,7 +523,26 @@ fn show_entries(
     emit_if(out, n, at < to, 50, at, to)
 }
 
-// What the buckets from `from` up to `to`, which no run holds, give after n findings: nothing if there are none.
+// What the buckets from `from` up to `to`, which no run holds, give after n findings.
+fn show_hole(
+    book: &[u8],
+    h: Header,
+    at: Places,
+    from: u64,
+    to: u64,
+    out: &mut [u8],
+    n: usize,
+) -> usize
+    requires { ⌜ Opened (now book) h at × (n < 2 ^ 62) × (from < to) ⌝ }
+    ensures found { λ r. ⌜ Added (now (out .entry)) n (gapOf (bookOf (now (book .entry)) .alloc) from to) r (now (out .exit)) ⌝ }
+    ensures few { λ r. ⌜ r ≤ n + 1 + 2 * (lowerBound to (bookOf (now (book .entry)) .alloc) - lowerBound from (bookOf (now (book .entry)) .alloc)) ⌝ }
+{
+    let range = alloc_range(book, at.alloc, h.alloc as usize, from, to);
+    let rest = start_of(out.len(), n);
+    n + show_entries(book, range.start, range.count, from, to, &mut out[rest..])
+}
+
+// The same: nothing if there are none.
 fn show_gap(
     book: &[u8],
     h: Header,
@@ -538,9 +557,7 @@ fn show_gap(
     ensures few { λ r. ⌜ r ≤ n + 1 + 2 * (lowerBound to (bookOf (now (book .entry)) .alloc) - lowerBound from (bookOf (now (book .entry)) .alloc)) ⌝ }
 {
     if from < to {
-        let range = alloc_range(book, at.alloc, h.alloc as usize, from, to);
-        let rest = start_of(out.len(), n);
-        return n + show_entries(book, range.start, range.count, from, to, &mut out[rest..]);
+        return show_hole(book, h, at, from, to, out, n);
     }
     n
 }
