@@ -7,7 +7,7 @@ use lib.ListN.{length, take, drop}
 use lib.Dec.{eqb}
 use borrow.Author.Tests.{eqb-true}
 use Rattle.findings.specs.Findings.{Finding, start, put, Found, each}
-use Rattle.findings.proofs.Laws.{part, back, more-lent}
+use Rattle.findings.proofs.Laws.{part, back, more-lent, found-as}
 use Rattle.book.specs.declared.Header.{Header}
 use Rattle.book.specs.declared.Places.{Places}
 use Rattle.book.specs.declared.KeyHead.{KeyHead}
@@ -24,10 +24,6 @@ use Rattle.walk.proofs.Keys.{keys-none}
 use Rattle.judge.specs.declared.Present.{Present}
 use Rattle.judge.specs.Present.{withBtree, presentWith}
 use Rattle.judge.specs.Steps.{keyRules, subvolumeRules, snapshotRules, firstRules, lastRules, acrossRules}
-
--- the same findings, said otherwise
-pub found-as : {o o′ : List ℕ} {r : ℕ} {fs gs : List Finding} → fs ≡ gs → Found o fs r o′ → Found o gs r o′
-found-as e h = rw e at h
 
 -- three rules, the second and the third in what the ones before leave of the buffer
 pub three-lent : {o o₁ ys zs : List ℕ} {fs gs hs : List Finding} (s t a b r : ℕ) → s ≡ start (length o₁) a → t ≡ start (length (back o₁ s ys)) (a + b)

@@ -9,7 +9,7 @@ use lib.ListN.{length, take}
 use lib.Dec.{eqb}
 use borrow.Author.Tests.{eq-eqb, ne-eqb}
 use Rattle.bits.specs.Bits.{leAt}
-use Rattle.findings.specs.Findings.{Finding, Found, finding, when, only, each, keep}
+use Rattle.findings.specs.Findings.{Finding, finding, when, only, each, keep}
 use Rattle.pairs.specs.Pairs.{has}
 use Rattle.pairs.proofs.Order.{same-or-not}
 use Rattle.book.specs.declared.Header.{Header}
@@ -155,10 +155,6 @@ only-false fs e = rw e
 only-true : (fs : List Finding) {m : Bool} → m ≡ true → fs ≡ only m fs
 unfolding only
 only-true fs e = rw e
-
--- the same findings, said otherwise
-pub found-as : {o o′ : List ℕ} {r : ℕ} {fs gs : List Finding} → fs ≡ gs → Found o fs r o′ → Found o gs r o′
-found-as e h = rw e at h
 
 -- ---- the mark
 

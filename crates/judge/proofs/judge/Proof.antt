@@ -1,7 +1,7 @@
 -- The keys, then the rules across them.
 use Rattle.book.proofs.Walk.{few-keys}
-use Rattle.findings.proofs.Laws.{more-lent}
-use Rattle.judge.proofs.Laws.{found-as, list-of}
+use Rattle.findings.proofs.Laws.{more-lent, found-as}
+use Rattle.judge.proofs.Laws.{list-of}
 use borrow.Author.Needs.{needs}
 use native.Mathlib.Omega.{arith}
 use Rattle.judge.proofs.judge.Statement.{statement}

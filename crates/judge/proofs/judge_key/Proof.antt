@@ -1,7 +1,8 @@
 -- The three rules one after the other.
 use Rattle.fields.proofs.Laws.{device-any}
 use Rattle.judge.specs.Steps.{keyRules}
-use Rattle.judge.proofs.Laws.{found-as, three-lent}
+use Rattle.findings.proofs.Laws.{found-as}
+use Rattle.judge.proofs.Laws.{three-lent}
 use borrow.Author.Needs.{needs}
 use native.Mathlib.Omega.{arith}
 use denote.Ref.{now}

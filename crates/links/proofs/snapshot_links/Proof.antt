@@ -1,11 +1,11 @@
 -- The pairs of the keys, sorted, are what is looked up; without the mark nothing is found.
 use mathlib.Core.Path.{sym, ap, _∙_}
 use native.Mathlib.Omega.{arith}
-use Rattle.findings.proofs.Laws.{none}
+use Rattle.findings.proofs.Laws.{none, found-as}
 use Rattle.pairs.specs.Pairs.{sort}
 use Rattle.book.specs.Book.{bookOf}
 use Rattle.book.proofs.Walk.{parts}
-use Rattle.links.proofs.Words.{found-as, links-marked, links-unmarked}
+use Rattle.links.proofs.Words.{links-marked, links-unmarked}
 use borrow.Author.Needs.{needs}
 use Rattle.links.proofs.snapshot_links.Statement.{statement}
 use Rattle.links.proofs.snapshot_links.Tie as tie
