@@ -138,7 +138,7 @@ fn count_skip(ids: &[u32; 1024], len: usize, id: u32, skip: u32) -> u64
     if (skip == 0) | (skip == id) {
         return 0;
     }
-    if parents::is_among(ids, len, skip) {
+    if parents::contains(ids, len, skip) {
         return 0;
     }
     1

@@ -3,9 +3,9 @@
 --     root-all              with a root, `above` is the whole chain, and has as many ids as the root has links
 -- of a line:
 --     among                 an id other than the snapshot is in its array exactly if it is one of `above`
---     lined-few             its length is what `is_among` requires
+--     lined-few             its length is what `contains` requires
 -- and of an answer of `ancestors_of`:
---     len-le                its length is what `contains` requires
+--     len-le                its length is at most 1,024
 --     root-is, root-len     its root, and that its length is the number of links to it
 use Prim.Native.Nat.{ℕ, zero, suc, _-_, _≤_, zero-le, suc-le-suc}
 use mathlib.Core.Path.{_≡_, refl, sym, ap, _∙_}

@@ -151,7 +151,7 @@ pub fn ancestors_of(book: &[u8], start: usize, count: usize, id: u32) -> Ancesto
 }
 
 // Whether `s` is among the first `len` ids of a lent array: all are looked at, so that many are compared at once.
-pub fn is_among(ids: &[u32; 1024], len: usize, s: u32) -> bool
+pub fn contains(ids: &[u32; 1024], len: usize, s: u32) -> bool
     requires { ⌜ (len ≤ 1024) × (length (now ids) ≡ 1024) ⌝ }
     ensures { λ r. ⌜ r ≡ has s (take len (now (ids .entry))) ⌝ }
 {
@@ -162,14 +162,6 @@ pub fn is_among(ids: &[u32; 1024], len: usize, s: u32) -> bool
         i += 1;
     }
     found
-}
-
-// Whether `s` is among the first `len` ids.
-pub fn contains(ids: [u32; 1024], len: usize, s: u32) -> bool
-    requires { ⌜ len ≤ 1024 ⌝ }
-    ensures { λ r. ⌜ r ≡ has s (take len ids) ⌝ }
-{
-    is_among(&ids, len, s)
 }
 
 // Puts `id` first, and the others of the first `end` ids one place up.

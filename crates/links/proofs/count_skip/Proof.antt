@@ -12,5 +12,5 @@ count-skip-spec =
     (tie.spec
     (λ c. let a = c .before .args in (rw (skip-own (a .id) (a .skip) (take (a .len) (a .ids .now)) (c .if1 .taken)), omega arith))
     (λ c κs. search needs)
-    (λ c. let a = c .before .before .before .args in (rw (skip-test (a .id) (a .skip) _ (c .before .before .if1 .left) (c .before .is-among .ensures) (c .if2 .taken)), omega arith))
-    (λ c. let a = c .before .before .before .args in (rw (skip-test (a .id) (a .skip) _ (c .before .before .if1 .left) (c .before .is-among .ensures) (c .if2 .left)), omega arith)))
+    (λ c. let a = c .before .before .before .args in (rw (skip-test (a .id) (a .skip) _ (c .before .before .if1 .left) (c .before .contains .ensures) (c .if2 .taken)), omega arith))
+    (λ c. let a = c .before .before .before .args in (rw (skip-test (a .id) (a .skip) _ (c .before .before .if1 .left) (c .before .contains .ensures) (c .if2 .left)), omega arith)))

@@ -1,4 +1,4 @@
--- `is_among` meets its contract. The invariant: whether `s` is among the first `i` ids is found. The measure is `len - i`.
+-- `contains` meets its contract. The invariant: whether `s` is among the first `i` ids is found. The measure is `len - i`.
 use Prim.Native.Nat.{_-_, _≤_}
 use mathlib.Core.Path.{_≡_, refl, ap, _∙_}
 use mathlib.Core.Bool.{Bool, _||_}
@@ -8,8 +8,8 @@ use Rattle.pairs.specs.Pairs.{has}
 use Rattle.parents.proofs.Shift.{has-more}
 use borrow.Author.Needs.{needs}
 use native.Mathlib.Omega.{arith}
-use Rattle.parents.proofs.is_among.Statement.{statement}
-use Rattle.parents.proofs.is_among.Tie as tie
+use Rattle.parents.proofs.contains.Statement.{statement}
+use Rattle.parents.proofs.contains.Tie as tie
 
 abbrev Inv-loop : tie.InvT-loop
 Inv-loop ids len s found₀ i₀ found i = (i ≤ len) × (found ≡ has s (take i ids))
@@ -33,8 +33,8 @@ returns c =
     let all : l .i ≡ c .before .before .args .len = omega arith in
     rw (← all) (l .inv .1)
 
-pub is-among-spec : {M : Type 1} → statement M
-is-among-spec =
+pub contains-spec : {M : Type 1} → statement M
+contains-spec =
     tie.close
     (tie.spec
     Inv-loop
