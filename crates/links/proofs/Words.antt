@@ -48,24 +48,14 @@ pub child-test : (t : List (ℕ × ℕ)) (id child : ℕ) {m : MaybeU32} {own : 
 unfolding badChild
 child-test t id child e m own = rw (own, m, word-back (lookup child t), ne-eqb child 0 e)
 
--- a skip word that is 0 or the snapshot, and another
-skip-first : (a b c : Bool) → a || b ≡ true → not a && not (b || c) ≡ false
-skip-first true b c e = refl
-skip-first false true c e = refl
-skip-first false false c e = let z : _≡_ {A = ℕ} 0 1 = cc in absurd (omega arith)
-
-skip-later : (a b c : Bool) → a || b ≡ false → not a && not (b || c) ≡ not c
-skip-later true b c e = let z : _≡_ {A = ℕ} 0 1 = cc in absurd (omega arith)
-skip-later false true c e = let z : _≡_ {A = ℕ} 0 1 = cc in absurd (omega arith)
-skip-later false false c e = refl
-
-pub skip-own : (id skip : ℕ) (ids : List ℕ) → eqb skip 0 || eqb skip id ≡ true → badSkip id ids skip ≡ false
+-- a skip word, by whether it is among the ids
+pub skip-by : (id skip : ℕ) (ids : List ℕ) {above : Bool} {x : ℕ} → above ≡ has skip ids → x ≡ cond (not (eqb skip 0) && not (eqb skip id || above)) 1 0 → x ≡ cond (badSkip id ids skip) 1 0
 unfolding badSkip has
-skip-own id skip ids e = skip-first (eqb skip 0) (eqb skip id) (has skip ids) e
+skip-by id skip ids h e = rw (← h) e
 
-pub skip-test : (id skip : ℕ) (ids : List ℕ) {above b : Bool} → eqb skip 0 || eqb skip id ≡ false → above ≡ has skip ids → above ≡ b → badSkip id ids skip ≡ not b
-unfolding badSkip has
-skip-test id skip ids e h k = skip-later (eqb skip 0) (eqb skip id) (has skip ids) e ∙ ap not (sym h ∙ k)
+pub skip-zero : (id skip : ℕ) (ids : List ℕ) → eqb skip 0 ≡ true → _≡_ {A = ℕ} 0 (cond (badSkip id ids skip) 1 0)
+unfolding badSkip
+skip-zero id skip ids e = rw e
 
 kept-length : (t : Bool) (x : ℕ) (xs : List ℕ) → length (cond t (x ∷ xs) xs) ≡ cond t 1 0 + length xs
 kept-length true x xs = omega arith

@@ -1,7 +1,7 @@
 // The rule on the links between snapshots and their trees.
 ghost use mathlib.Core.Path.{_≡_};
 ghost use mathlib.Core.List.{[], _∷_, _++_};
-ghost use mathlib.Core.Bool.{cond, not, _&&_};
+ghost use mathlib.Core.Bool.{cond, not, _&&_, _||_};
 ghost use Prim.Native.Nat.{_+_, _*_, _%_, _^_, _<_, _≤_};
 ghost use lib.ListN.{length, take, drop, getD};
 ghost use lib.Dec.{eqb};
@@ -129,19 +129,15 @@ fn bad_backref(book: &[u8], h: Header, at: Places, id: u32, subvolume: u32) -> b
     is_other(snapshot_of(book, h, at, subvolume), id)
 }
 
-// 1 for a skip word that names neither the snapshot nor one of the first len ids, else 0.
-fn count_skip(ids: &[u32; 1024], len: usize, id: u32, skip: u32) -> u64
-    requires { ⌜ (len ≤ 1024) × (length (now ids) ≡ 1024) ⌝ }
-    ensures counted { λ r. ⌜ r ≡ cond (badSkip id (take len (now (ids .entry))) skip) 1 0 ⌝ }
+// 1 for a skip word that names neither the snapshot nor an id above it, else 0.
+fn count_skip(id: u32, skip: u32, above: bool) -> u64
+    ensures counted { λ r. ⌜ r ≡ cond (not (eqb skip 0) && not (eqb skip id || above)) 1 0 ⌝ }
     ensures few { λ r. ⌜ r ≤ 1 ⌝ }
 {
-    if (skip == 0) | (skip == id) {
-        return 0;
+    if (skip != 0) & !((skip == id) | above) {
+        return 1;
     }
-    if parents::contains(ids, len, skip) {
-        return 0;
-    }
-    1
+    0
 }
 
 // How many of the three skip words of the snapshot at byte p are bad.
@@ -149,10 +145,14 @@ fn count_skips(book: &[u8], p: usize, f: KeyFront, ids: &[u32; 1024], len: usize
     requires { ⌜ AtKey (now book) p f × (40 ≤ f .len) × (len ≤ 1024) × (length (now ids) ≡ 1024) ⌝ }
     ensures { λ r. ⌜ r ≡ length (keep (badSkip id (take len (now (ids .entry)))) (skipWords (keyAt (now (book .entry)) p))) ⌝ }
 {
-    let one = count_skip(ids, len, id, walk::key_word(book, p, f, 28));
-    let two = count_skip(ids, len, id, walk::key_word(book, p, f, 32));
-    let three = count_skip(ids, len, id, walk::key_word(book, p, f, 36));
-    one + two + three
+    let a = walk::key_word(book, p, f, 28);
+    let b = walk::key_word(book, p, f, 32);
+    let c = walk::key_word(book, p, f, 36);
+    if (a == 0) & (b == 0) & (c == 0) {
+        return 0;
+    }
+    let above = parents::contains(ids, len, a, b, c);
+    count_skip(id, a, above.a) + count_skip(id, b, above.b) + count_skip(id, c, above.c)
 }
 
 // The finding of a snapshot whose subvolume has another snapshot.

@@ -33,6 +33,13 @@ pub struct Ancestors {
     pub root: Root,
 }
 
+// Which of three ids are among others.
+pub struct Among {
+    pub a: bool,
+    pub b: bool,
+    pub c: bool,
+}
+
 // What is known of the ids above a snapshot that an array begins with: the snapshot, how many they are, and the root. From the place `near` the
 // table is searched for the next snapshot.
 pub struct Line {
@@ -150,15 +157,24 @@ pub fn ancestors_of(book: &[u8], start: usize, count: usize, id: u32) -> Ancesto
     }
 }
 
-// Whether `s` is among the first `len` ids of a lent array: all are looked at, so that many are compared at once.
-pub fn contains(ids: &[u32; 1024], len: usize, s: u32) -> bool
+// Which of three ids are among the first `len` of a lent array: all are looked at, so that many are compared at once.
+pub fn contains(ids: &[u32; 1024], len: usize, a: u32, b: u32, c: u32) -> Among
     requires { ⌜ (len ≤ 1024) × (length (now ids) ≡ 1024) ⌝ }
-    ensures { λ r. ⌜ r ≡ has s (take len (now (ids .entry))) ⌝ }
+    ensures { λ r. ⌜ (r .a ≡ has a (take len (now (ids .entry)))) × (r .b ≡ has b (take len (now (ids .entry)))) × (r .c ≡ has c (take len (now (ids .entry)))) ⌝ }
 {
-    let mut found = false;
+    let mut found = Among {
+        a: false,
+        b: false,
+        c: false,
+    };
     let mut i = 0;
     while i < len {
-        found = found | (s == ids[i]);
+        let id = ids[i];
+        found = Among {
+            a: found.a | (a == id),
+            b: found.b | (b == id),
+            c: found.c | (c == id),
+        };
         i += 1;
     }
     found
