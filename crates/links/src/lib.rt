@@ -5,7 +5,7 @@ ghost use mathlib.Core.Bool.{cond, not, _&&_, _||_};
 ghost use Prim.Native.Nat.{_+_, _*_, _%_, _^_, _<_, _≤_};
 ghost use lib.ListN.{length, take, drop, getD};
 ghost use lib.Dec.{eqb};
-ghost use Rattle.findings.specs.Findings.{finding, only, each, keep, Found, Added};
+ghost use Rattle.findings.specs.Findings.{only, each, keep, Found, Added};
 ghost use Rattle.pairs.specs.Pairs.{pairsOf};
 ghost use Rattle.book.specs.Maps.{lookup};
 ghost use Rattle.book.specs.Book.{wordsFrom, bookOf, parentsOf};

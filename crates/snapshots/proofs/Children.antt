@@ -27,7 +27,7 @@ use Rattle.book.specs.Walk.{Opened, maybeU32}
 use Rattle.book.proofs.Walk.{parts}
 use Rattle.states.specs.Distance.{subvolDeleted}
 use Rattle.walk.specs.Keys.{keyAt, AtKey, gather, anyKey}
-use Rattle.walk.proofs.Gather.{at-is, at-length, at-long, long-enough}
+use Rattle.walk.proofs.Gather.{at-length, at-long, long-enough}
 use Rattle.walk.proofs.Sets.{first-true, has-nil, has-append, other-btree}
 use Rattle.maps.specs.Maps.{mapOf}
 use Rattle.maps.specs.Places.{placePair, numberIn, whichIn, lastPlace, lastPlaces}
