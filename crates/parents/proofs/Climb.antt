@@ -52,7 +52,7 @@ module _ (t : List (ℕ × ℕ)) (at : ℕ) {r : MaybeU32} (e : r ≡ maybeU32 (
   pub top-is : {p : ℕ} → r ≡ Is p → p ≡ 0 → lookup at t ≡ some 0
   top-is f z = word-is _ (sym e ∙ f) ∙ ap some z
 
-  pub link-is : {p : ℕ} → r ≡ Is p → (p ≡ 0 → ⊥) → link t at ≡ some p
+  link-is : {p : ℕ} → r ≡ Is p → (p ≡ 0 → ⊥) → link t at ≡ some p
   link-is f z = link-to t at (word-is _ (sym e ∙ f)) z
 
   pub absent-is : r ≡ Absent → lookup at t ≡ none

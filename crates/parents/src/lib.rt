@@ -1,6 +1,7 @@
 // The parents of a book: an id's parent through a view of the table, the root above an id, and an id's ancestors.
 ghost use mathlib.Core.Path.{_≡_};
 ghost use mathlib.Core.List.{_∷_};
+ghost use mathlib.Core.Option.{some};
 ghost use Prim.Native.Nat.{_+_, _≤_, _<_, min};
 ghost use lib.ListN.{length, take, drop};
 ghost use Rattle.pairs.specs.Pairs.{has};
@@ -279,8 +280,48 @@ pub fn line_of(
     }
 }
 
-// The line of `id` from that of another snapshot, by the parent of `id`: where this is the other snapshot it is put first, and where it is the
-// other's parent too the ids are the same.
+// The line of `id`, whose parent is `p`, from that of another snapshot: where this is the parent, it is put first, and where the parent is the
+// other's too, the ids are the same.
+fn line_under(
+    book: &[u8],
+    start: usize,
+    count: usize,
+    line: Line,
+    near: usize,
+    id: u32,
+    p: u32,
+    ids: &mut [u32; 1024],
+) -> Line
+    requires { ⌜ Rising wordsTable (now book) start count × Lined (wordsFrom (now book) count start) (now ids) line × (near ≤ count) ⌝ }
+    requires { ⌜ (lookup id (wordsFrom (now book) count start) ≡ some p) × (0 < p) ⌝ }
+    ensures lined { λ r. ⌜ Lined (wordsFrom (now (book .entry)) count start) (now (ids .exit)) r ⌝ }
+    ensures same { λ r. ⌜ (r .id ≡ id) × (r .near ≤ count) ⌝ }
+{
+    let root = line.root;
+    if p == line.id {
+        let len = one_longer(line.len);
+        put_first(ids, len, p);
+        let root = root_below(root);
+        return Line {
+            id,
+            len,
+            root,
+            near,
+        };
+    }
+    let len = line.len;
+    if (0 < len) & (ids[0] == p) {
+        return Line {
+            id,
+            len,
+            root,
+            near,
+        };
+    }
+    line_of(book, start, count, near, id, ids)
+}
+
+// The line of `id` from that of another snapshot, by the parent of `id`.
 fn line_by_parent(
     book: &[u8],
     start: usize,
@@ -312,28 +353,7 @@ fn line_by_parent(
             near,
         };
     }
-    let root = line.root;
-    if p == line.id {
-        let len = one_longer(line.len);
-        put_first(ids, len, p);
-        let root = root_below(root);
-        return Line {
-            id,
-            len,
-            root,
-            near,
-        };
-    }
-    let len = line.len;
-    if (0 < len) & (ids[0] == p) {
-        return Line {
-            id,
-            len,
-            root,
-            near,
-        };
-    }
-    line_of(book, start, count, near, id, ids)
+    line_under(book, start, count, line, near, id, p, ids)
 }
 
 // The line of `id` from that of another snapshot: of the same, or of a child with a root, from which the first id is taken away; else by the

@@ -1,8 +1,9 @@
 -- `line_by_parent` meets its contract: what is found of the parent leads to each return.
-use mathlib.Core.Path.{refl}
-use borrow.Author.Tests.{ltb-true, eqb-true}
-use Rattle.parents.proofs.Climb.{top-is, link-is, absent-is}
-use Rattle.parents.proofs.Beside.{both-true, lined-top, lined-absent, lined-down, lined-beside}
+use mathlib.Core.Path.{refl, sym, _∙_}
+use native.Mathlib.Omega.{arith}
+use Rattle.book.proofs.Maps.{word-is}
+use Rattle.parents.proofs.Climb.{top-is, absent-is}
+use Rattle.parents.proofs.Beside.{lined-top, lined-absent}
 use borrow.Author.Needs.{needs}
 use Rattle.parents.proofs.line_by_parent.Statement.{statement}
 use Rattle.parents.proofs.line_by_parent.Tie as tie
@@ -20,28 +21,13 @@ returns-2 c =
     let t = f .before .before in
     (lined-top _ _ (t .pre .1 .full) _ _ (top-is _ _ (f .parent-near .ensures .0) (k .parent .given .1) (c .if1 .taken)), (refl, f .parent-near .ensures .1))
 
-returns-3 : tie.Need-returns-3
-returns-3 c =
-    let m = c .before .before .before in
-    let e = m .before .before .before in
+line-under-requires : tie.Need-line-under-requires
+line-under-requires c κs =
+    let e = c .before in
     let k = e .before .before in
     let f = k .before .before in
     let t = f .before .before in
-    let put = c .before .put-first .ensures in (
-      lined-down _ (t .pre .1) (link-is _ _ (f .parent-near .ensures .0) (k .parent .given .1) (e .if1 .left)) (m .before .if2 .taken) (m .one-longer .ensures) (put .0) (put .1) (c .root-below .ensures),
-      (refl, f .parent-near .ensures .1),
-    )
-
-returns-4 : tie.Need-returns-4
-returns-4 c =
-    let e = c .before .before .before .before in
-    let k = e .before .before in
-    let f = k .before .before in
-    let t = f .before .before in
-    let both = both-true _ _ (c .if3 .taken) in (
-      lined-beside _ (t .pre .1) (link-is _ _ (f .parent-near .ensures .0) (k .parent .given .1) (e .if1 .left)) (ltb-true _ _ (both .0)) (eqb-true _ _ (both .1)),
-      (refl, f .parent-near .ensures .1),
-    )
+    ((t .pre .0, t .pre .1, f .parent-near .ensures .1), (word-is _ (sym (f .parent-near .ensures .0) ∙ k .parent .given .1), omega (arith, e .if1 .left)))
 
 pub line-by-parent-spec : {M : Type 1} → statement M
 line-by-parent-spec =
@@ -52,11 +38,5 @@ line-by-parent-spec =
     (λ c. search needs)
     returns
     returns-2
-    (λ c κs. search needs)
-    (λ c κs. search needs)
-    (λ c κs. search needs)
-    returns-3
-    (λ c. search needs)
-    returns-4
-    (λ c κs. search needs)
+    line-under-requires
     (λ c. search needs))
