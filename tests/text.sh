@@ -1,0 +1,64 @@
+#!/usr/bin/env bash
+# Writes what tools/book says of wrong input, with its exit status: the texts of tests/text.txt, each ended by a line ---, then texts that are too long,
+# then bytes that are not a whole book, then files that are not there.
+cd "$(dirname "$0")/.." || exit 1
+
+# say COMMAND ..: the tool over standard input
+say() {
+    local said status
+    said=$(tools/book "$@" 2>&1)
+    status=$?
+    echo "$said; status $status"
+}
+
+# wrong_texts: each of the texts of tests/text.txt
+wrong_texts() {
+    local text='' line
+    while IFS= read -r line; do
+        if [ "$line" = --- ]; then
+            printf '%s' "$text" | say pack
+            text=
+        else
+            text+=$line$'\n'
+        fi
+    done <tests/text.txt
+}
+
+# long_texts: a line, a byte or a word more than fits; before each of the first two, the longest that fits
+long_texts() {
+    local key='key btree=0 type=0 offset=0'
+    { echo book && seq 65535 | sed 's/.*/parent id=&/'; } | tools/book pack | wc -c
+    { echo book && seq 65536 | sed 's/.*/parent id=&/'; } | say pack
+    { echo book && yes "$key" | head -n 37448; } | tools/book pack | wc -c
+    { echo book && yes "$key" | head -n 37449; } | say pack
+    { echo book && echo "$key words=0$(printf ',0%.0s' {1..510}) value=000000"; } | tools/book pack | wc -c
+    { echo book && echo "$key value=00 words=0$(printf ',0%.0s' {1..511})"; } | say pack
+    printf 'book\nparent \000id=1\n' | say pack
+    printf '' | say pack
+}
+
+# header COUNT_AT: a header whose count at that byte is 1
+header() {
+    printf '\020' && head -c "$1" /dev/zero && printf '\001' && head -c $((30 - $1)) /dev/zero
+}
+
+wrong_books() {
+    printf '' | say text
+    head -c 31 crates/listing/stdin | say text
+    head -c 59 crates/listing/stdin | say text
+    { cat crates/listing/stdin && echo; } | say text
+    for count_at in 24 26 28 30; do
+        { header $count_at && printf '1234567'; } | say text
+    done
+    { header 6 && printf '\001\001\000\040' && head -c 24 /dev/zero; } | say text
+    head -c 1048577 /dev/zero | say text
+    echo 00zz | say roundtrip
+    echo 000 | say roundtrip
+    tools/book text tests 2>&1 || echo "status $?"
+    tools/book text target/tests/nothing 2>&1 || echo "status $?"
+    tools/book 2>&1 || echo "status $?"
+}
+
+wrong_texts
+long_texts
+wrong_books
