@@ -1,8 +1,7 @@
 -- The groups of sorted pairs give the findings of the keys that are in them, so what they say of a subvolume is what the rule says.
-use Prim.Native.Nat.{ℕ, zero, suc, _+_, _*_, _/_, _%_, _^_, _≤_, _<_, zero-le}
+use Prim.Native.Nat.{ℕ, zero, suc, _+_, _*_, _/_, _%_, _^_, _≤_, _<_}
 use mathlib.Core.Path.{_≡_, refl, sym, ap, ap₂, _∙_}
 use mathlib.Core.Bool.{Bool, true, false, true≢false, cond, _&&_, _||_}
-use mathlib.Core.Logic.{⊎-elim}
 use mathlib.Core.List.{List, [], _∷_, _++_, append-nil}
 use native.Mathlib.Nat.{le-refl, le-trans, not-suc-le-zero}
 use native.Mathlib.Omega.{arith}
@@ -14,7 +13,7 @@ use Rattle.findings.specs.Findings.{Finding, finding, when, only, each, keep}
 use Rattle.findings.proofs.Walk.{each-any, each-keep, each-same}
 use Rattle.pairs.specs.Pairs.{pair, pairsOf, sort, Sorted}
 use Rattle.pairs.specs.Steps.{count, Permuted}
-use Rattle.pairs.proofs.Order.{tested, same-or-not, there, sorted-tail, sorted-cons, sort-sorted, sort-permuted, sorted-by}
+use Rattle.pairs.proofs.Order.{same-or-not, there, sorted-tail, sorted-cons, sort-sorted, sort-permuted, sorted-by}
 use Rattle.pairs.proofs.Words.{pair-first, pair-second, length-pairs, second}
 use Rattle.book.specs.Book.{Bkey, Book, is, keyEnd, keysFrom}
 use Rattle.book.specs.Walk.{KeysFit}
@@ -24,7 +23,7 @@ use Rattle.maps.proofs.Last.{sorted-from}
 use Rattle.states.specs.Distance.{snapLive, subvolUnlinked, subvolDeleted}
 use Rattle.subvolumes.specs.Subvolumes.{isLiveSnapshot, hasSubvolState, subvolState, unavailable, liveSnapshotOf, treeOfSubvolume, subvolumeFindings, subvolumeStates}
 use Rattle.walk.specs.Keys.{keyAt, gather, anyKey}
-use Rattle.subvolumes.specs.Steps.{isTree, inGroup, groupOf, statePair, Grouped, groupFindings, judged, isDeleted}
+use Rattle.subvolumes.specs.Steps.{isTree, inGroup, groupOf, statePair, Grouped, groupFindings, judged}
 use Rattle.subvolumes.proofs.Groups.{Words, group-append, group-nil, group-pair}
 use Rattle.walk.proofs.Sets.{first-true}
 
@@ -182,14 +181,6 @@ all-grouped s w m n p small fit fits room e = record {
       rw (← second w m fits k l) (all-heads s small n p fit y there-is);
 }
 
-pub none-grouped : (s w : List ℕ) → Grouped s w 0
-unfolding pairsOf
-none-grouped s w = record {
-  room = zero-le;
-  sorted = unfold sort in sort-sorted [];
-  heads = λ k l. absurd (not-suc-le-zero l);
-}
-
 -- ---- the rule
 
 pub judged-all : (b : Book) (s : List ℕ) (n p : ℕ) {xs : List ℕ} → length s ≤ 1048576 → KeysFit s n p → b .keys ≡ keysFrom s n p
@@ -207,27 +198,19 @@ judged-all b s n p {xs} small fit keys pairs =
     ))
     0 (b .keys)
 
--- without a deleted subvolume any pairs do
+-- without an unavailable subvolume there is nothing to find
 neither : (a b : Bool) → a || b ≡ false → (a ≡ false) × (b ≡ false)
 neither true b e = absurd (true≢false e)
 neither false b e = (refl, e)
 
-module _ (b : Book) (s xs : List ℕ) where
-  judged-other : (k : Bkey) → isDeleted k ≡ false → judged s xs k ≡ only (unavailable k) (subvolumeFindings b k)
-  unfolding judged subvolumeFindings unavailable isDeleted only
-  judged-other k e = ⊎-elim (λ t. let other = rw t at e in rw other) (λ t. rw t) (tested (hasSubvolState k))
+none-gone : (b : Book) (i : ℕ) (ks : List Bkey) → anyKey unavailable ks ≡ false → each (λ _ k. only (unavailable k) (subvolumeFindings b k)) i ks ≡ []
+unfolding anyKey each only
+none-gone b i [] e = refl
+none-gone b i (k ∷ ks) e = let none = neither (unavailable k) (anyKey unavailable ks) e in rw (none .0) (none-gone b (suc i) ks (none .1))
 
-  judged-others : (i : ℕ) (ks : List Bkey) → anyKey isDeleted ks ≡ false
-      → each (λ _ k. judged s xs k) i ks ≡ each (λ _ k. only (unavailable k) (subvolumeFindings b k)) i ks
-  unfolding anyKey each
-  judged-others i [] e = refl
-  judged-others i (k ∷ ks) e =
-      let none = neither (isDeleted k) (anyKey isDeleted ks) e in
-      ap₂ (λ (a b : List Finding). a ++ b) (judged-other k (none .0)) (judged-others (suc i) ks (none .1))
-
-  pub judged-none : anyKey isDeleted (b .keys) ≡ false → each (λ _ k. judged s xs k) 0 (b .keys) ≡ subvolumeStates b
-  unfolding subvolumeStates
-  judged-none e = judged-others 0 (b .keys) e
+pub states-none : (b : Book) → anyKey unavailable (b .keys) ≡ false → subvolumeStates b ≡ []
+unfolding subvolumeStates
+states-none b e = none-gone b 0 (b .keys) e
 
 -- one subvolume
 module _ (s xs : List ℕ) (k : Bkey) where

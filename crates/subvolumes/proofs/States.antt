@@ -15,7 +15,7 @@ use Rattle.book.proofs.Walk.{step, no-keys}
 use Rattle.states.specs.Distance.{snapLive, subvolUnlinked, subvolDeleted}
 use Rattle.subvolumes.specs.Subvolumes.{isLiveSnapshot, hasSubvolState, subvolState, unavailable, isUnavailable}
 use Rattle.walk.specs.Keys.{keyAt, AtKey, anyKey}
-use Rattle.subvolumes.specs.Steps.{isTree, inGroup, groupOf, statePair, isDeleted}
+use Rattle.subvolumes.specs.Steps.{isTree, inGroup, groupOf, statePair}
 use Rattle.walk.proofs.Gather.{at-length, at-long, long-enough}
 use Rattle.walk.proofs.Sets.{first-true}
 
@@ -33,15 +33,6 @@ module _ {s : List ℕ} {p : ℕ} {f : KeyFront} (k : AtKey s p f) where
   pub gone-no : (eqb (f .btree) 8 && eqb (f .«key_type») 21) && leb 44 (f .len) ≡ false → false ≡ unavailable (keyAt s p)
   unfolding unavailable hasSubvolState
   gone-no e = rw (at-long k 8 21 44 e)
-
-  pub deleted-yes : (eqb (f .btree) 8 && eqb (f .«key_type») 21) && leb 44 (f .len) ≡ true → {w : ℕ} → w ≡ leAt (keyAt s p .value) 40 4
-      → eqb w subvolDeleted ≡ isDeleted (keyAt s p)
-  unfolding isDeleted hasSubvolState subvolState
-  deleted-yes e w = rw (at-long k 8 21 44 e, w)
-
-  pub deleted-no : (eqb (f .btree) 8 && eqb (f .«key_type») 21) && leb 44 (f .len) ≡ false → false ≡ isDeleted (keyAt s p)
-  unfolding isDeleted hasSubvolState
-  deleted-no e = rw (at-long k 8 21 44 e)
 
   pub live-yes : (eqb (f .btree) 9 && eqb (f .«key_type») 22) && leb 60 (f .len) ≡ true → {w : ℕ} → w ≡ leAt (keyAt s p .value) 56 4 → eqb w snapLive ≡ isLiveSnapshot (keyAt s p)
   unfolding isLiveSnapshot

@@ -11,7 +11,7 @@ use Rattle.pairs.specs.Pairs.{pair, pairsOf, Sorted}
 use Rattle.book.specs.Book.{Bkey, is}
 use Rattle.walk.specs.Keys.{keyAt}
 use Rattle.states.specs.Distance.{subvolDeleted}
-use Rattle.subvolumes.specs.Subvolumes.{isLiveSnapshot, hasSubvolState, unavailable, subvolState, claims}
+use Rattle.subvolumes.specs.Subvolumes.{isLiveSnapshot, unavailable, subvolState, claims}
 
 -- the pair that a claimant gives: the snapshot that it claims, and 0
 unfoldable pub claimPair : ℕ → Bkey → List ℕ
@@ -68,7 +68,3 @@ judged s xs k =
     (when (eqb (k .offset) 1) (finding 29 1 0)
     ++ only (eqb (subvolState k) subvolDeleted)
     (groupFindings s 30 (2 * k .offset) (k .offset) xs ++ groupFindings s 31 (2 * k .offset + 1) (k .offset) xs))
-
--- a deleted subvolume: pairs of states are asked for of no other
-unfoldable pub isDeleted : Bkey → Bool
-isDeleted k = hasSubvolState k && eqb (subvolState k) subvolDeleted

@@ -28,7 +28,6 @@ ghost use Rattle.subvolumes.specs.Steps.{
   GroupFrom,
   groupFindings,
   judged,
-  isDeleted,
 };
 use book::Header;
 use book::KeyFront;
@@ -349,27 +348,16 @@ fn show_subvolumes(
     found
 }
 
-// Whether the key at byte p is a deleted subvolume.
-fn is_deleted(book: &[u8], p: usize, f: KeyFront) -> bool
-    requires { ⌜ AtKey (now book) p f ⌝ }
-    ensures { λ r. ⌜ r ≡ isDeleted (keyAt (now (book .entry)) p) ⌝ }
-{
-    if ((f.btree == 8) & (f.key_type == 21)) & (44 <= f.len) {
-        return walk::key_word(book, p, f, SUBVOL_STATE) == SUBVOL_DELETED;
-    }
-    false
-}
-
-// Whether some key is a deleted subvolume.
-fn has_deleted(book: &[u8], h: Header, at: Places) -> bool
+// Whether some key is an unavailable subvolume.
+fn has_gone(book: &[u8], h: Header, at: Places) -> bool
     requires { ⌜ Opened (now book) h at ⌝ }
-    ensures { λ r. ⌜ r ≡ anyKey isDeleted (bookOf (now (book .entry)) .keys) ⌝ }
+    ensures { λ r. ⌜ r ≡ anyKey unavailable (bookOf (now (book .entry)) .keys) ⌝ }
 {
     let mut left = h.keys;
     let mut p = at.keys;
     while 0 < left {
         let f = book::key_front(book, p);
-        if is_deleted(book, p, f) {
+        if is_gone(book, p, f) {
             return true;
         }
         p = p + 28 + f.len;
@@ -378,19 +366,16 @@ fn has_deleted(book: &[u8], h: Header, at: Places) -> bool
     false
 }
 
-// Puts the pairs of states that the rule needs, sorted, and returns their number: none where no subvolume is deleted.
+// Puts the pairs of states, sorted, and returns their number.
 fn sort_states(book: &[u8], h: Header, at: Places, work: &mut [u64]) -> usize
     requires { ⌜ Opened (now book) h at × (2 * h .keys ≤ length (now work)) ⌝ }
     ensures put { λ r. ⌜ each (λ _ k. judged (now (book .entry)) (pairsOf (now (work .exit)) r) k) 0 (bookOf (now (book .entry)) .keys) ≡ subvolumeStates (bookOf (now (book .entry))) ⌝ }
     ensures grouped { λ r. ⌜ Grouped (now (book .entry)) (now (work .exit)) r ⌝ }
     ensures few { λ r. ⌜ r ≤ h .keys ⌝ }
 {
-    if has_deleted(book, h, at) {
-        let n = put_states(book, h, at, work);
-        pairs::sort_pairs(work, n);
-        return n;
-    }
-    0
+    let n = put_states(book, h, at, work);
+    pairs::sort_pairs(work, n);
+    n
 }
 
 // The findings of unlinked and deleted subvolumes, and of live snapshots and tree records of deleted ones.
@@ -405,6 +390,9 @@ pub fn subvolume_states(
     ensures found { λ r. ⌜ Found (now (out .entry)) (subvolumeStates (bookOf (now (book .entry)))) r (now (out .exit)) ⌝ }
     ensures few { λ r. ⌜ r ≤ h .keys * 74899 ⌝ }
 {
-    let n = sort_states(book, h, at, work);
-    show_subvolumes(book, h, at, work, n, out)
+    if has_gone(book, h, at) {
+        let n = sort_states(book, h, at, work);
+        return show_subvolumes(book, h, at, work, n, out);
+    }
+    0
 }

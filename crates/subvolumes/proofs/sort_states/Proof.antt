@@ -1,9 +1,9 @@
--- The pairs of states, sorted, say of each key what the rule says; without a deleted subvolume no pairs do too.
-use mathlib.Core.Path.{sym, ap, _∙_}
+-- The pairs of states, sorted, say of each key what the rule says.
+use mathlib.Core.Path.{ap, _∙_}
 use Rattle.pairs.specs.Pairs.{pairsOf, sort}
 use Rattle.book.specs.Book.{bookOf}
 use Rattle.book.proofs.Walk.{parts}
-use Rattle.subvolumes.proofs.Members.{all-grouped, none-grouped, judged-all, judged-none}
+use Rattle.subvolumes.proofs.Members.{all-grouped, judged-all}
 use borrow.Author.Needs.{needs}
 use native.Mathlib.Omega.{arith}
 use Rattle.subvolumes.proofs.sort_states.Statement.{statement}
@@ -11,7 +11,7 @@ use Rattle.subvolumes.proofs.sort_states.Tie as tie
 
 returns : tie.Need-returns
 returns c =
-    let t = c .before .before .before .before .before .before .before .before .before .before .before .before in
+    let t = c .before .before .before .before .before .before .before .before .before .before in
     let book = t .args .book .now in
     let open-parts = parts (t .pre .0) in
     let sorted = c .before .before .sort-pairs .ensures .0 ∙ ap sort (c .before .before .before .before .before .before .put-states .ensures .0) in (
@@ -19,19 +19,11 @@ returns c =
       (all-grouped book _ _ _ _ (open-parts .small) (open-parts .keys-fit) (λ k. c .slice-known3 .given k .fits) (omega arith) sorted, c .before .before .before .before .before .before .put-states .ensures .1),
     )
 
-returns-2 : tie.Need-returns-2
-returns-2 c =
-    let t = c .before .before .before .before in
-    let book = t .args .book .now in
-    (judged-none (bookOf book) book (pairsOf (t .args .work .now) 0) (sym (c .before .has-deleted .ensures) ∙ c .if1 .left), (none-grouped book (t .args .work .now), omega arith))
-
 pub sort-states-spec : {M : Type 1} → statement M
 sort-states-spec =
     tie.close
     (tie.spec
     (λ c κs. search needs)
     (λ c κs. search needs)
-    (λ c κs. search needs)
     (λ c. search needs)
-    returns
-    returns-2)
+    returns)

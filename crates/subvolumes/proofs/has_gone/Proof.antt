@@ -1,19 +1,19 @@
--- Some key is deleted if one of the keys left is.
+-- Some key is an unavailable subvolume if one of the keys left is.
 use mathlib.Core.Path.{_≡_, refl, sym, _∙_}
 use Rattle.book.specs.Book.{keysFrom}
 use Rattle.book.specs.Walk.{KeysFit}
 use Rattle.book.proofs.Walk.{parts, step}
 use Rattle.walk.proofs.Gather.{at-key, at-end}
 use Rattle.walk.specs.Keys.{anyKey}
-use Rattle.subvolumes.specs.Steps.{isDeleted}
+use Rattle.subvolumes.specs.Subvolumes.{unavailable}
 use Rattle.subvolumes.proofs.States.{any-here, any-next, any-end}
 use borrow.Author.Needs.{needs}
 use native.Mathlib.Omega.{arith}
-use Rattle.subvolumes.proofs.has_deleted.Statement.{statement}
-use Rattle.subvolumes.proofs.has_deleted.Tie as tie
+use Rattle.subvolumes.proofs.has_gone.Statement.{statement}
+use Rattle.subvolumes.proofs.has_gone.Tie as tie
 
 abbrev Inv-loop : tie.InvT-loop
-Inv-loop book left₀ p₀ left p = KeysFit book left p × (anyKey isDeleted (keysFrom book left₀ p₀) ≡ anyKey isDeleted (keysFrom book left p))
+Inv-loop book left₀ p₀ left p = KeysFit book left p × (anyKey unavailable (keysFrom book left₀ p₀) ≡ anyKey unavailable (keysFrom book left p))
 
 abbrev μ-loop : tie.MeasureT-loop
 μ-loop book left₀ p₀ left p = left
@@ -22,11 +22,11 @@ loop-again : tie.Need-loop-again Inv-loop μ-loop
 loop-again c =
     let ends = at-end (at-key (parts (c .before .before .before .before .before .before .before .pre) .small) (c .before .before .before .before .loop-test .taken) (c .before .before .before .before .before .loop .inv .0) (c .before .before .before .key-front .ensures)) in (
       rw ends (step _ _ _ (c .before .before .before .before .loop-test .taken) (c .before .before .before .before .before .loop .inv .0) .rest),
-      c .before .before .before .before .before .loop .inv .1 ∙ any-next _ _ _ _ (c .before .before .before .before .loop-test .taken) (c .before .before .before .before .before .loop .inv .0) (c .before .before .is-deleted .ensures) (c .before .if1 .left) ends,
+      c .before .before .before .before .before .loop .inv .1 ∙ any-next _ _ _ _ (c .before .before .before .before .loop-test .taken) (c .before .before .before .before .before .loop .inv .0) (c .before .before .is-gone .ensures) (c .before .if1 .left) ends,
     )
 
-pub has-deleted-spec : {M : Type 1} → statement M
-has-deleted-spec =
+pub has-gone-spec : {M : Type 1} → statement M
+has-gone-spec =
     tie.close
     (tie.spec
     Inv-loop
@@ -34,7 +34,7 @@ has-deleted-spec =
     (λ c. (parts (c .before .pre) .keys-fit, refl))
     (λ c κs. omega (arith, parts (c .before .before .before .pre) .small, step _ _ _ (c .loop-test .taken) (c .before .loop .inv .0) .head))
     (λ c κs. at-key (parts (c .before .before .before .before .pre) .small) (c .before .loop-test .taken) (c .before .before .loop .inv .0) (c .key-front .ensures))
-    (λ c. rw (parts (c .before .before .before .before .before .before .pre) .keys) (sym (c .before .before .before .before .loop .inv .1 ∙ any-here _ _ _ _ (c .before .before .before .loop-test .taken) (c .before .before .before .before .loop .inv .0) (c .before .is-deleted .ensures) (c .if1 .taken))))
+    (λ c. rw (parts (c .before .before .before .before .before .before .pre) .keys) (sym (c .before .before .before .before .loop .inv .1 ∙ any-here _ _ _ _ (c .before .before .before .loop-test .taken) (c .before .before .before .before .loop .inv .0) (c .before .is-gone .ensures) (c .if1 .taken))))
     (λ c. let k = at-key (parts (c .before .before .before .before .before .before .pre) .small) (c .before .before .before .loop-test .taken) (c .before .before .before .before .loop .inv .0) (c .before .before .key-front .ensures) in omega (arith, at-end k, k .inside, k .small))
     (λ c. let k = at-key (parts (c .before .before .before .before .before .before .before .pre) .small) (c .before .before .before .before .loop-test .taken) (c .before .before .before .before .before .loop .inv .0) (c .before .before .before .key-front .ensures) in omega (arith, at-end k, k .inside, k .small))
     (λ c. search needs)
