@@ -325,7 +325,7 @@ struct Range {
 }
 
 // The entries of an alloc table for the buckets from `from` up to `to`.
-fn alloc_range(book: &[u8], start: usize, count: usize, from: u64, to: u64) -> Range
+fn find_range(book: &[u8], start: usize, count: usize, from: u64, to: u64) -> Range
     requires { ⌜ Rising allocTable (now book) start count × (length (now book) ≤ 1048576) × (from ≤ to) ⌝ }
     ensures { λ r. ⌜ r ≡ rangeOf start (allocFrom (now (book .entry)) count start) from to ⌝ }
 {
@@ -335,6 +335,17 @@ fn alloc_range(book: &[u8], start: usize, count: usize, from: u64, to: u64) -> R
         start: start + low * 10,
         count: high - low,
     }
+}
+
+// The same, at once where the table has no entries.
+fn alloc_range(book: &[u8], start: usize, count: usize, from: u64, to: u64) -> Range
+    requires { ⌜ Rising allocTable (now book) start count × (length (now book) ≤ 1048576) × (from ≤ to) ⌝ }
+    ensures { λ r. ⌜ r ≡ rangeOf start (allocFrom (now (book .entry)) count start) from to ⌝ }
+{
+    if count == 0 {
+        return Range { start, count: 0 };
+    }
+    find_range(book, start, count, from, to)
 }
 
 // Whether a data type says that its bucket is in use.
