@@ -238,7 +238,7 @@ fn read_counts(book: &[u8]) -> Counts
 }
 
 // The header of a book of 32 bytes or more.
-pub fn read_header(book: &[u8]) -> Header
+fn read_header(book: &[u8]) -> Header
     requires { ⌜ 32 ≤ length (now book) ⌝ }
     ensures { λ r. ⌜ r ≡ headerOf (now (book .entry)) ⌝ }
 {
@@ -265,7 +265,7 @@ pub fn read_header(book: &[u8]) -> Header
 }
 
 // Where the tables and the keys of a book with this header start.
-pub fn find_places(h: Header) -> Places
+fn find_places(h: Header) -> Places
     ensures places { λ r. ⌜ r ≡ placesOf h ⌝ }
     ensures near { λ r. ⌜ Near r ⌝ }
 {

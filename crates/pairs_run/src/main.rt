@@ -54,21 +54,15 @@ fn line(a: u64, b: u64) {
     number(b, b"\n");
 }
 
-// Writes what is found of a, whether the pair of a and b is there, and how many pairs are below it.
+// Writes whether the pair of a and b is there, and how many pairs are below it.
 fn look(w: &[u64], n: usize, a: u64, b: u64)
     requires { ⌜ 2 * n ≤ length (now w) ⌝ }
     requires { ⌜ Sorted (pairsOf (now w) n) ⌝ }
 {
-    match pairs::find_pair(w, n, a) {
-        pairs::MaybeU64::Is(x) => number(x, b""),
-        pairs::MaybeU64::Absent => {
-            io::write_all(1, b"absent");
-        }
-    }
     if pairs::has_pair(w, n, a, b) {
-        io::write_all(1, b" there ");
+        io::write_all(1, b"there ");
     } else {
-        io::write_all(1, b" not there ");
+        io::write_all(1, b"not there ");
     }
     number(pairs::lower_bound(w, n, a, b) as u64, b"\n");
 }
