@@ -2,6 +2,7 @@
 mod books;
 mod compare;
 mod expected;
+mod large;
 mod layout;
 mod library;
 mod list;
@@ -20,6 +21,7 @@ use std::process::ExitCode;
 const USAGE: &str = "\
 usage: oracle run [MODE|all] [BOOKS] [SEED]   compares so many books of each mode
        oracle judge HEX                       writes what both say of one book
+       oracle large                           compares the books of docs/SPEED.md, in four orders and forms
        oracle books PAGE                      holds both to the books of a page, as docs/DIFFERENCES.md
        oracle list FOLDER                     writes the list that the program `replay` runs: stdin and stdout
        oracle selftest                        shows that a difference in each kind is seen, with the smallest book that shows it
@@ -30,6 +32,7 @@ fn main() -> ExitCode {
     let args: Vec<&str> = args.iter().map(String::as_str).collect();
     let is_good = match args[..] {
         ["run", ref rest @ ..] => run(rest),
+        ["large"] => Some(large::run()),
         ["judge", hex] => judge(hex),
         ["books", page] => books(page),
         ["list", folder] => list(folder),
