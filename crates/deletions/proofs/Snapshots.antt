@@ -10,6 +10,7 @@ use borrow.Author.Tests.{eq-eqb, ne-eqb}
 use Rattle.bits.specs.Bits.{leAt}
 use Rattle.findings.specs.Findings.{finding, when, only, each, bytesOf}
 use Rattle.pairs.specs.Pairs.{pair, sort, has}
+use Rattle.pairs.proofs.Order.{both-true}
 use Rattle.pairs.proofs.Bounds.{has-sort}
 use Rattle.book.specs.declared.KeyFront.{KeyFront}
 use Rattle.book.specs.Book.{Bkey, Book, is, keysFrom}
@@ -18,7 +19,7 @@ use Rattle.deletions.specs.Snapshots.{hasSnapState, snapState, liveSnaps
 use Rattle.walk.specs.Keys.{keyAt, AtKey, gather, anyKey}
 use Rattle.subvolumes.specs.Subvolumes.{isLiveSnapshot}
 use Rattle.deletions.specs.Sets.{isLiveSubvolume, isAccounted, setPair, willDelete, deleting, setFindings}
-use Rattle.walk.proofs.Sets.{first-true, aside, has-nil, has-same, has-other, other-btree, any-by}
+use Rattle.walk.proofs.Sets.{aside, has-nil, has-same, has-other, other-btree, any-by}
 use Rattle.walk.proofs.Gather.{at-long, long-enough}
 use Rattle.findings.proofs.Walk.{each-same}
 
@@ -49,7 +50,7 @@ module _ (h : List ℕ → Bool) (none : h [] ≡ false) where
   third-by false false false e d g hx hy hz = none
 
 btree-of : (b t : ℕ) (k : Bkey) (l m : Bool) → (is b t k && l) && m ≡ true → is b t k ≡ true
-btree-of b t k l m e = first-true (is b t k) l (first-true (is b t k && l) m e)
+btree-of b t k l m e = both-true (is b t k) l (both-true (is b t k && l) m e .0) .0
 
 not-subvolume : (k : Bkey) → isLiveSnapshot k ≡ true → isLiveSubvolume k ≡ false
 unfolding isLiveSnapshot isLiveSubvolume
@@ -181,7 +182,7 @@ module _ (xs : List ℕ) (k : Bkey) where
 
 pub snap-long : (k : Bkey) → hasSnapState k && leb (k .offset) 4294967295 ≡ true → 60 ≤ length (k .value)
 unfolding hasSnapState
-snap-long k e = long-enough (is 9 22 k) 60 (length (k .value)) (first-true (is 9 22 k && leb 60 (length (k .value))) (leb (k .offset) 4294967295) e)
+snap-long k e = long-enough (is 9 22 k) 60 (length (k .value)) (both-true (is 9 22 k && leb 60 (length (k .value))) (leb (k .offset) 4294967295) e .0)
 
 -- the findings of a snapshot that will be deleted, and of one with keys accounted to it
 pub deleted-findings : (xs : List ℕ) (w l r o : ℕ) {a b c : Bool} → a ≡ has (pair w 1) xs → b ≡ has (pair l 0) xs → c ≡ has (pair r 0) xs

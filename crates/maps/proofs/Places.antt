@@ -14,8 +14,8 @@ use Rattle.pairs.specs.declared.MaybeU64.{MaybeU64}
 use Rattle.pairs.specs.declared.MaybeU64.the-variants.{Is, Absent}
 use Rattle.pairs.specs.Pairs.{pair, pairsOf, sort, Sorted, has, orElse}
 use Rattle.pairs.specs.Steps.{count}
-use Rattle.pairs.proofs.Order.{same-or-not, there, sorted-tail, sorted-cons, sort-sorted, sorted-by}
-use Rattle.pairs.proofs.Bounds.{has-sort}
+use Rattle.pairs.proofs.Order.{both-true, same-or-not, there, sorted-tail, sorted-cons, sort-sorted, sorted-by}
+use Rattle.pairs.proofs.Bounds.{has-append, has-sort}
 use Rattle.pairs.proofs.Words.{length-pairs}
 use Rattle.book.specs.declared.KeyFront.{KeyFront}
 use Rattle.book.specs.Maps.{lookup}
@@ -23,12 +23,12 @@ use Rattle.book.specs.Book.{Bkey, keyHead, keyEnd, keysFrom}
 use Rattle.book.specs.Walk.{KeysFit, frontOf}
 use Rattle.book.proofs.Laws.{key-end}
 use Rattle.walk.specs.Keys.{keyAt, AtKey, gather, anyKey}
-use Rattle.walk.proofs.Sets.{has-nil, has-append}
+use Rattle.walk.proofs.Sets.{has-nil}
 use Rattle.maps.specs.Maps.{mapOf}
 use Rattle.maps.specs.Places.{placePair, numberIn, whichIn, placeIn, isFor, lastPlace, lastPlaces}
 use Rattle.maps.specs.Sorted.{AllPairs, lastAt}
 use Rattle.maps.proofs.Maps.{orSome, lastFor, some-none, collect-lookup, collect-rises, rises-same, map-lookup, map-rises}
-use Rattle.maps.proofs.Pairs.{number-part, place-part, place-for, both-true, for-parts, parts-for, keep-append, keep-parts, kept-there, keep-sort, last-kept, last-holds}
+use Rattle.maps.proofs.Pairs.{number-part, place-part, place-for, for-parts, parts-for, keep-append, keep-parts, kept-there, keep-sort, last-kept, last-holds}
 use Rattle.maps.proofs.Last.{placeOf, sorted-from, places-lookup, places-rise, number-at, place-at, last-which}
 
 -- of the pairs that a key gives, those of a map are its number and place, where it passes the map's test
