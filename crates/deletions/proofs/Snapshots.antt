@@ -14,6 +14,7 @@ use Rattle.pairs.proofs.Order.{both-true}
 use Rattle.pairs.proofs.Bounds.{has-sort}
 use Rattle.book.specs.declared.KeyFront.{KeyFront}
 use Rattle.book.specs.Book.{Bkey, Book, is, keysFrom}
+use Rattle.book.specs.Walk.{KeysFit}
 use Rattle.states.specs.Distance.{snapLive, snapWillDelete, snapNoKeys, snapDeleted, subvolLive}
 use Rattle.deletions.specs.Snapshots.{hasSnapState, snapState, liveSnapshot, liveSubvolume, accountedId, accounted, liveChild, subvolumeIsLive, snapshotStateFindings, snapshotStates}
 use Rattle.walk.specs.Keys.{keyAt, AtKey, gather, anyKey}
@@ -91,12 +92,12 @@ module _ (id p : ℕ) (k : Bkey) where
 -- ---- all keys
 
 -- the sets, sorted, say of every key what the rule says
-pub sets-all : (b : Book) (s : List ℕ) (n p : ℕ) {xs : List ℕ} → b .keys ≡ keysFrom s n p → xs ≡ sort (gather setPair s n p) → each (λ _ k. setFindings xs k) 0 (b .keys) ≡ snapshotStates b
+pub sets-all : (b : Book) (s : List ℕ) (n p : ℕ) {xs : List ℕ} → length s ≤ 1048576 → KeysFit s n p → b .keys ≡ keysFrom s n p → xs ≡ sort (gather setPair s n p) → each (λ _ k. setFindings xs k) 0 (b .keys) ≡ snapshotStates b
 unfolding setFindings deleting willDelete snapshotStateFindings snapshotStates liveChild subvolumeIsLive
-sets-all b s n p {xs} keys sorted =
-    let live : (id : ℕ) → has (pair id 0) xs ≡ anyKey (liveSnapshot id) (b .keys) = λ id. rw (sorted, has-sort, keys) (any-by (pair id 0) setPair (liveSnapshot id) s (live-key id) n p) in
-    let subvolume : (id : ℕ) → has (pair id 1) xs ≡ anyKey (liveSubvolume id) (b .keys) = λ id. rw (sorted, has-sort, keys) (any-by (pair id 1) setPair (liveSubvolume id) s (subvolume-key id) n p) in
-    let counted : (id : ℕ) → has (pair id 2) xs ≡ anyKey (accounted id) (b .keys) = λ id. rw (sorted, has-sort, keys) (any-by (pair id 2) setPair (accounted id) s (accounted-key id) n p) in
+sets-all b s n p {xs} few fit keys sorted =
+    let live : (id : ℕ) → has (pair id 0) xs ≡ anyKey (liveSnapshot id) (b .keys) = λ id. rw (sorted, has-sort, keys) (any-by (pair id 0) setPair (liveSnapshot id) s few (λ p k l. live-key id p k) n p fit) in
+    let subvolume : (id : ℕ) → has (pair id 1) xs ≡ anyKey (liveSubvolume id) (b .keys) = λ id. rw (sorted, has-sort, keys) (any-by (pair id 1) setPair (liveSubvolume id) s few (λ p k l. subvolume-key id p k) n p fit) in
+    let counted : (id : ℕ) → has (pair id 2) xs ≡ anyKey (accounted id) (b .keys) = λ id. rw (sorted, has-sort, keys) (any-by (pair id 2) setPair (accounted id) s few (λ p k l. accounted-key id p k) n p fit) in
     each-same (setFindings xs) (λ k. only (hasSnapState k && leb (k .offset) 4294967295) (snapshotStateFindings b k))
     (λ k. rw (subvolume (leAt (k .value) 16 4), live (leAt (k .value) 8 4), live (leAt (k .value) 12 4), counted (k .offset)))
     0 (b .keys)

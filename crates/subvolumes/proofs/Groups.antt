@@ -8,7 +8,7 @@ use native.Mathlib.Omega.{arith}
 use lib.ListN.{length, getD}
 use lib.Dec.{eqb}
 use borrow.Author.Tests.{eq-eqb, ne-eqb}
-use Rattle.findings.specs.Findings.{Finding, finding, only, each, start, Added}
+use Rattle.findings.specs.Findings.{Finding, finding, only, each, Added}
 use Rattle.findings.proofs.Laws.{added-nil, added-full, added-as, added-more}
 use Rattle.findings.proofs.Walk.{each-any, each-append}
 use Rattle.pairs.specs.Pairs.{pair, pairAt, pairsOf, Sorted, countBelow}

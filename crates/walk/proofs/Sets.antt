@@ -1,8 +1,10 @@
 -- Sets of numbers as pairs in the work words: what is among the pairs that the keys give.
-use Prim.Native.Nat.{ℕ, zero, suc}
+use Prim.Native.Nat.{ℕ, zero, suc, _^_, _≤_, _<_}
 use mathlib.Core.Path.{_≡_, refl, sym, ap, ap₂, _∙_}
 use mathlib.Core.Bool.{Bool, true, false, _&&_, _||_, or-false, and-assoc, and-comm}
 use mathlib.Core.List.{List, [], _∷_}
+use native.Mathlib.Omega.{arith}
+use lib.ListN.{length}
 use lib.Dec.{eqb}
 use borrow.Author.Tests.{ne-eqb, eqb-true}
 use Rattle.pairs.specs.Pairs.{pair, has}
@@ -10,6 +12,8 @@ pub use Rattle.pairs.proofs.Order.{both-true}
 use Rattle.pairs.proofs.Bounds.{has-append}
 use Rattle.pairs.proofs.Words.{pair-equal}
 use Rattle.book.specs.Book.{Bkey, is, keyEnd, keysFrom}
+use Rattle.book.specs.Walk.{KeysFit}
+use Rattle.book.proofs.Laws.{key-end}
 use Rattle.walk.specs.Keys.{keyAt, gather, anyKey}
 
 pub aside : (x m e : Bool) → (x && m) && e ≡ x && (e && m)
@@ -35,8 +39,10 @@ unfolding is
 other-btree k b t c u d e = rw (ne-eqb (k .btree) c (λ x. d (sym (eqb-true (k .btree) b (both-true _ (eqb (k .keyType) t) e .0)) ∙ x)))
 
 -- a number is among what all keys give if it is among what some key gives
-pub any-by : (x : ℕ) (of : ℕ → Bkey → List ℕ) (test : Bkey → Bool) (s : List ℕ) → ((p : ℕ) (k : Bkey) → has x (of p k) ≡ test k) → (n p : ℕ) → has x (gather of s n p) ≡ anyKey test (keysFrom s n p)
-unfolding gather keysFrom anyKey
-any-by x of test s one zero p = has-nil x
-any-by x of test s one (suc n) p =
-    has-append x (of p (keyAt s p)) (gather of s n (keyEnd s p)) ∙ ap₂ (λ (a b : Bool). a || b) (one p (keyAt s p)) (any-by x of test s one n (keyEnd s p))
+pub any-by : (x : ℕ) (of : ℕ → Bkey → List ℕ) (test : Bkey → Bool) (s : List ℕ) → length s ≤ 1048576 → ((p : ℕ) (k : Bkey) → p < 2 ^ 32 → has x (of p k) ≡ test k)
+    → (n p : ℕ) → KeysFit s n p → has x (gather of s n p) ≡ anyKey test (keysFrom s n p)
+unfolding gather keysFrom anyKey KeysFit
+any-by x of test s few one zero p fit = has-nil x
+any-by x of test s few one (suc n) p fit =
+    has-append x (of p (keyAt s p)) (gather of s n (keyEnd s p))
+    ∙ ap₂ (λ (a b : Bool). a || b) (one p (keyAt s p) (omega (arith, key-end s p, fit .0))) (any-by x of test s few one n (keyEnd s p) (fit .1))
