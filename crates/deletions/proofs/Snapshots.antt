@@ -10,15 +10,17 @@ use borrow.Author.Tests.{eq-eqb, ne-eqb}
 use Rattle.bits.specs.Bits.{leAt}
 use Rattle.findings.specs.Findings.{finding, when, only, each, bytesOf}
 use Rattle.pairs.specs.Pairs.{pair, sort, has}
+use Rattle.pairs.proofs.Order.{both-true}
 use Rattle.pairs.proofs.Bounds.{has-sort}
 use Rattle.book.specs.declared.KeyFront.{KeyFront}
 use Rattle.book.specs.Book.{Bkey, Book, is, keysFrom}
+use Rattle.book.specs.Walk.{KeysFit}
 use Rattle.states.specs.Distance.{snapLive, snapWillDelete, snapNoKeys, snapDeleted, subvolLive}
 use Rattle.deletions.specs.Snapshots.{hasSnapState, snapState, liveSnapshot, liveSubvolume, accountedId, accounted, liveChild, subvolumeIsLive, snapshotStateFindings, snapshotStates}
 use Rattle.walk.specs.Keys.{keyAt, AtKey, gather, anyKey}
 use Rattle.subvolumes.specs.Subvolumes.{isLiveSnapshot}
 use Rattle.deletions.specs.Sets.{isLiveSubvolume, isAccounted, setPair, willDelete, deleting, setFindings}
-use Rattle.walk.proofs.Sets.{first-true, aside, has-nil, has-same, has-other, other-btree, any-by}
+use Rattle.walk.proofs.Sets.{aside, has-nil, has-same, has-other, other-btree, any-by}
 use Rattle.walk.proofs.Gather.{at-long, long-enough}
 use Rattle.findings.proofs.Walk.{each-same}
 
@@ -49,7 +51,7 @@ module _ (h : List ℕ → Bool) (none : h [] ≡ false) where
   third-by false false false e d g hx hy hz = none
 
 btree-of : (b t : ℕ) (k : Bkey) (l m : Bool) → (is b t k && l) && m ≡ true → is b t k ≡ true
-btree-of b t k l m e = first-true (is b t k) l (first-true (is b t k && l) m e)
+btree-of b t k l m e = both-true (is b t k) l (both-true (is b t k && l) m e .0) .0
 
 not-subvolume : (k : Bkey) → isLiveSnapshot k ≡ true → isLiveSubvolume k ≡ false
 unfolding isLiveSnapshot isLiveSubvolume
@@ -90,12 +92,12 @@ module _ (id p : ℕ) (k : Bkey) where
 -- ---- all keys
 
 -- the sets, sorted, say of every key what the rule says
-pub sets-all : (b : Book) (s : List ℕ) (n p : ℕ) {xs : List ℕ} → b .keys ≡ keysFrom s n p → xs ≡ sort (gather setPair s n p) → each (λ _ k. setFindings xs k) 0 (b .keys) ≡ snapshotStates b
+pub sets-all : (b : Book) (s : List ℕ) (n p : ℕ) {xs : List ℕ} → length s ≤ 1048576 → KeysFit s n p → b .keys ≡ keysFrom s n p → xs ≡ sort (gather setPair s n p) → each (λ _ k. setFindings xs k) 0 (b .keys) ≡ snapshotStates b
 unfolding setFindings deleting willDelete snapshotStateFindings snapshotStates liveChild subvolumeIsLive
-sets-all b s n p {xs} keys sorted =
-    let live : (id : ℕ) → has (pair id 0) xs ≡ anyKey (liveSnapshot id) (b .keys) = λ id. rw (sorted, has-sort, keys) (any-by (pair id 0) setPair (liveSnapshot id) s (live-key id) n p) in
-    let subvolume : (id : ℕ) → has (pair id 1) xs ≡ anyKey (liveSubvolume id) (b .keys) = λ id. rw (sorted, has-sort, keys) (any-by (pair id 1) setPair (liveSubvolume id) s (subvolume-key id) n p) in
-    let counted : (id : ℕ) → has (pair id 2) xs ≡ anyKey (accounted id) (b .keys) = λ id. rw (sorted, has-sort, keys) (any-by (pair id 2) setPair (accounted id) s (accounted-key id) n p) in
+sets-all b s n p {xs} few fit keys sorted =
+    let live : (id : ℕ) → has (pair id 0) xs ≡ anyKey (liveSnapshot id) (b .keys) = λ id. rw (sorted, has-sort, keys) (any-by (pair id 0) setPair (liveSnapshot id) s few (λ p k l. live-key id p k) n p fit) in
+    let subvolume : (id : ℕ) → has (pair id 1) xs ≡ anyKey (liveSubvolume id) (b .keys) = λ id. rw (sorted, has-sort, keys) (any-by (pair id 1) setPair (liveSubvolume id) s few (λ p k l. subvolume-key id p k) n p fit) in
+    let counted : (id : ℕ) → has (pair id 2) xs ≡ anyKey (accounted id) (b .keys) = λ id. rw (sorted, has-sort, keys) (any-by (pair id 2) setPair (accounted id) s few (λ p k l. accounted-key id p k) n p fit) in
     each-same (setFindings xs) (λ k. only (hasSnapState k && leb (k .offset) 4294967295) (snapshotStateFindings b k))
     (λ k. rw (subvolume (leAt (k .value) 16 4), live (leAt (k .value) 8 4), live (leAt (k .value) 12 4), counted (k .offset)))
     0 (b .keys)
@@ -181,7 +183,7 @@ module _ (xs : List ℕ) (k : Bkey) where
 
 pub snap-long : (k : Bkey) → hasSnapState k && leb (k .offset) 4294967295 ≡ true → 60 ≤ length (k .value)
 unfolding hasSnapState
-snap-long k e = long-enough (is 9 22 k) 60 (length (k .value)) (first-true (is 9 22 k && leb 60 (length (k .value))) (leb (k .offset) 4294967295) e)
+snap-long k e = long-enough (is 9 22 k) 60 (length (k .value)) (both-true (is 9 22 k && leb 60 (length (k .value))) (leb (k .offset) 4294967295) e .0)
 
 -- the findings of a snapshot that will be deleted, and of one with keys accounted to it
 pub deleted-findings : (xs : List ℕ) (w l r o : ℕ) {a b c : Bool} → a ≡ has (pair w 1) xs → b ≡ has (pair l 0) xs → c ≡ has (pair r 0) xs

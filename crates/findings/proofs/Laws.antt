@@ -2,7 +2,7 @@
 use mathlib.Core.Path.{_≡_, refl, sym, ap, ap₂, _∙_}
 use mathlib.Core.Bool.{Bool, true, false}
 use mathlib.Core.List.{List, [], _∷_, _++_, append-assoc, append-nil}
-use Prim.Native.Nat.{ℕ, suc, _+_, _-_, _*_, _≤_, _<_}
+use Prim.Native.Nat.{ℕ, suc, _+_, _-_, _*_, _/_, _≤_, _<_}
 use native.Mathlib.Nat.{lt-of-not-le}
 use native.Mathlib.Decide.{decLe}
 use native.Mathlib.Omega.{arith}
@@ -150,6 +150,16 @@ added-as e a = rw e at a
 pub added-nil : {o : List ℕ} {n : ℕ} {fs : List Finding} → fs ≡ [] → Added o n fs n o
 unfolding putFrom put
 added-nil {o} {n} e = rw e (record { count = omega arith; buffer = sym (take-append-drop (start (length o) n) o) })
+
+-- where the buffer has no room for them: it stays
+pub added-full : {o : List ℕ} {n : ℕ} {fs : List Finding} → length o / 17 ≤ n → Added o n fs (n + length fs) o
+unfolding putFrom
+added-full {o} {n} {fs} h =
+    let at = start (length o) n in
+    record {
+      count = refl;
+      buffer = sym (ap (λ (l : List ℕ). take at o ++ l) (put-full (drop at o) fs (omega (arith, length-drop at o))) ∙ take-append-drop at o);
+    }
 
 -- where a test held, and where it failed
 pub added-only : {o o′ : List ℕ} {n r : ℕ} {fs : List Finding} {test b : Bool} → b ≡ test → b ≡ true → Added o n fs r o′ → Added o n (only test fs) r o′

@@ -1,5 +1,5 @@
 -- What it means for each rule of `snapshot_links` that it reports no forest kind.
-use mathlib.Core.Bool.{Bool, true, false, not, _&&_, _||_}
+use mathlib.Core.Bool.{Bool, true, false, true≢false, not, _&&_, _||_}
 use mathlib.Core.Logic.{_⊎_, inl, inr, ⊎-elim, _↔_}
 use mathlib.Core.List.{List, [], _∷_, _++_, List·Memᴰ·head, List·Memᴰ·tail, List·Memᴰ·not-nil, Memᴰ·append-left, Memᴰ·append-right, List·Memᴰ·append-cases}
 use mathlib.Core.Option.{Option, none, some, Option·some-injective}
@@ -18,9 +18,6 @@ use Rattle.forest.proofs.Lists.{each-mem, mem-each, keep-none, none-kep
 
 -- TESTS
 
-pub true-not-false : {A : Type 0} → true ≡ false → A
-true-not-false e = let z : _≡_ {A = ℕ} 0 1 = cc in absurd (omega arith)
-
 pub and-false : (a c : Bool) → a && c ≡ false → (a ≡ false) ⊎ (c ≡ false)
 and-false true c e = inr e
 and-false false c e = inl refl
@@ -37,7 +34,7 @@ has-true i (x ∷ xs) (List·Memᴰ·tail m) = go (eqb i x) (has-true i xs m)
 
 pub true-has : (i : ℕ) (xs : List ℕ) → has i xs ≡ true → i ∈ xs
 unfolding has
-true-has i [] e = true-not-false (sym e)
+true-has i [] e = absurd (true≢false (sym e))
 true-has i (x ∷ xs) e = go (eqb i x) refl e (λ e′. true-has i xs e′)
   where
     go : (c : Bool) → eqb i x ≡ c → c || has i xs ≡ true → (has i xs ≡ true → i ∈ xs) → i ∈ (x ∷ xs)
@@ -48,7 +45,7 @@ true-has i (x ∷ xs) e = go (eqb i x) refl e (λ e′. true-has i xs e′)
 
 -- a kind that the test does not find among the forest kinds
 pub not-forest : (k : ℕ) → has k forestKinds ≡ false → k ∈ forestKinds → ⊥
-not-forest k e m = true-not-false (sym (has-true k forestKinds m) ∙ e)
+not-forest k e m = true≢false (sym (has-true k forestKinds m) ∙ e)
 
 -- findings of kinds that the test does not find: for the lists of the other rules
 pub absent-kinds : (xs : List Finding) → ((f : Finding) → f ∈ xs → has (f .kind) forestKinds ≡ false) → Absent xs
@@ -69,7 +66,7 @@ absent-each g i xs = (
 -- a finding of a forest kind is absent exactly if the test fails
 pub absent-when : (c : Bool) (kind s o : ℕ) → kind ∈ forestKinds → Absent (when c (finding kind s o)) ↔ (c ≡ false)
 unfolding when
-absent-when true kind s o k = ((λ h. absurd (h _ (List·Memᴰ·head refl) k)), (λ e. true-not-false e))
+absent-when true kind s o k = ((λ h. absurd (h _ (List·Memᴰ·head refl) k)), (λ e. absurd (true≢false e)))
 absent-when false kind s o k = ((λ h. refl), (λ e f m. absurd (List·Memᴰ·not-nil m)))
 
 -- a finding of another kind is no matter
@@ -83,13 +80,13 @@ absent-other false kind s o k f m n = List·Memᴰ·not-nil m
 
 pub is-some : (x : ℕ) (o : Option ℕ) → isThe x o ≡ true ↔ o ≡ some x
 unfolding isThe
-is-some x none = ((λ e. true-not-false (sym e)), (λ e. let z : _≡_ {A = ℕ} 0 1 = cc in absurd (omega arith)))
+is-some x none = ((λ e. absurd (true≢false (sym e))), (λ e. let z : _≡_ {A = ℕ} 0 1 = cc in absurd (omega arith)))
 is-some x (some y) = ((λ e. ap some (eqb-true y x e)), (λ e. eq-eqb y x (Option·some-injective y x e)))
 
 pub names-root : (t r : Option (ℕ × ℕ)) → namesRoot t r ≡ true → (x : ℕ × ℕ) × (y : ℕ × ℕ) × (t ≡ some x) × (r ≡ some y) × (x .1 ≡ y .0)
 unfolding namesRoot
-names-root none r e = true-not-false (sym e)
-names-root (some x) none e = true-not-false (sym e)
+names-root none r e = absurd (true≢false (sym e))
+names-root (some x) none e = absurd (true≢false (sym e))
 names-root (some x) (some y) e = (x, y, refl, refl, eqb-true (x .1) (y .0) e)
 
 pub depth-right : (y : ℕ × ℕ) (d : ℕ) → wrongDepth d (some y) ≡ false ↔ d ≡ y .1

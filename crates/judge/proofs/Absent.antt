@@ -1,10 +1,11 @@
 -- A rule finds nothing where a book has no key of its btrees.
 use Prim.Native.Nat.{ℕ, suc}
 use mathlib.Core.Path.{_≡_, refl, sym, ap, _∙_}
-use mathlib.Core.Bool.{Bool, true, false, not, _&&_, _||_}
+use mathlib.Core.Bool.{Bool, true, false, _&&_, _||_, or-false, or-assoc}
 use mathlib.Core.List.{List, [], _∷_, map}
 use lib.Dec.{eqb, leb}
 use Rattle.findings.specs.Findings.{Finding, finding, when, only, each, keep}
+use Rattle.pairs.proofs.Order.{both-false}
 use Rattle.book.specs.Maps.{insertAll, collect, lookup}
 use Rattle.book.specs.Book.{Bkey, Book, is}
 use Rattle.walk.specs.Keys.{anyKey}
@@ -20,19 +21,6 @@ use Rattle.judge.specs.declared.Present.{Present}
 use Rattle.judge.specs.Present.{hasBtree, withBtree, presentWith, presentIn}
 use Rattle.judge.specs.Steps.{subvolumeRules, snapshotRules}
 
--- an `or` that is false
-pub left-false : (a b : Bool) → a || b ≡ false → a ≡ false
-left-false true b e = e
-left-false false b e = refl
-
-pub right-false : (a b : Bool) → a || b ≡ false → b ≡ false
-right-false true b e = cc
-right-false false b e = e
-
-pub not-true : (a : Bool) → not a ≡ true → a ≡ false
-not-true true e = sym e
-not-true false e = refl
-
 -- ---- what is found at keys of one btree
 
 -- a test that only keys of btree b pass
@@ -43,14 +31,14 @@ keep-none : (b : ℕ) (test : Bkey → Bool) → Of b test → (ks : List Bkey) 
 unfolding hasBtree anyKey keep
 keep-none b test o [] e = refl
 keep-none b test o (k ∷ ks) e =
-    rw (o .fails k (left-false _ (anyKey (λ k. eqb (k .btree) b) ks) e)) (keep-none b test o ks (right-false (eqb (k .btree) b) _ e))
+    rw (o .fails k (both-false _ (anyKey (λ k. eqb (k .btree) b) ks) e .0)) (keep-none b test o ks (both-false (eqb (k .btree) b) _ e .1))
 
 each-none : (b : ℕ) (test : Bkey → Bool) (at : Bkey → List Finding) → Of b test → (i : ℕ) (ks : List Bkey) → hasBtree b ks ≡ false
     → each (λ _ k. only (test k) (at k)) i ks ≡ []
 unfolding hasBtree anyKey each only
 each-none b test at o i [] e = refl
 each-none b test at o i (k ∷ ks) e =
-    rw (o .fails k (left-false _ (anyKey (λ k. eqb (k .btree) b) ks) e)) (each-none b test at o (suc i) ks (right-false (eqb (k .btree) b) _ e))
+    rw (o .fails k (both-false _ (anyKey (λ k. eqb (k .btree) b) ks) e .0)) (each-none b test at o (suc i) ks (both-false (eqb (k .btree) b) _ e .1))
 
 -- ---- the rules
 
@@ -87,7 +75,7 @@ claimed-none : (ks : List Bkey) → hasBtree 8 ks ≡ false → claimed ks ≡ [
 unfolding hasBtree anyKey claimed
 claimed-none [] e = refl
 claimed-none (k ∷ ks) e =
-    rw (of-claims .fails k (left-false _ (anyKey (λ k. eqb (k .btree) 8) ks) e)) (claimed-none ks (right-false (eqb (k .btree) 8) _ e))
+    rw (of-claims .fails k (both-false _ (anyKey (λ k. eqb (k .btree) 8) ks) e .0)) (claimed-none ks (both-false (eqb (k .btree) 8) _ e .1))
 
 -- a map made from the keys of a btree is empty
 map-none : {A : Type 0} (b : ℕ) (test : Bkey → Bool) (number : Bkey → ℕ) (word : Bkey → A) → Of b test → (ks : List Bkey) → hasBtree b ks ≡ false → mapOf test number word ks ≡ []
@@ -129,14 +117,6 @@ gens-none b e f =
 
 -- ---- the btrees of the keys
 
-or-false : (a : Bool) → a || false ≡ a
-or-false true = refl
-or-false false = refl
-
-or-assoc : (a b c : Bool) → (a || b) || c ≡ a || (b || c)
-or-assoc true b c = refl
-or-assoc false b c = refl
-
 -- a part of what is present, where a key adds its btree b to it
 with-keys : (part : Present → Bool) (b : ℕ) → ((p : Present) (x : ℕ) → part (withBtree p x) ≡ part p || eqb x b) → (p : Present) (ks : List Bkey)
     → part (presentWith p ks) ≡ part p || hasBtree b ks
@@ -148,7 +128,7 @@ with-keys part b one p (k ∷ ks) =
 -- a part that is not present, of the btrees of some keys
 lacks : (part : Present → Bool) (b : ℕ) → ((p : Present) (x : ℕ) → part (withBtree p x) ≡ part p || eqb x b) → (none : Present) → {p : Present} (ks : List Bkey)
     → p ≡ presentWith none ks → part p ≡ false → hasBtree b ks ≡ false
-lacks part b one none ks e f = right-false (part none) (hasBtree b ks) (sym (ap part e ∙ with-keys part b one none ks) ∙ f)
+lacks part b one none ks e f = both-false (part none) (hasBtree b ks) (sym (ap part e ∙ with-keys part b one none ks) ∙ f) .1
 
 pub lacks-subvolumes : {p : Present} (ks : List Bkey) → p ≡ presentIn ks → p .subvolumes ≡ false → hasBtree 8 ks ≡ false
 unfolding presentIn withBtree

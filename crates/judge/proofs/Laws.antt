@@ -1,11 +1,11 @@
 -- The rules one after the other.
 use Prim.Native.Nat.{ℕ, _+_, _-_, _<_, _≤_}
 use mathlib.Core.Path.{_≡_, refl, sym, ap, _∙_}
-use mathlib.Core.Bool.{Bool, true, false, not}
+use mathlib.Core.Bool.{false, not}
 use mathlib.Core.List.{List, [], _∷_, _++_, append-assoc}
 use lib.ListN.{length, take, drop}
 use lib.Dec.{eqb}
-use borrow.Author.Tests.{eqb-true}
+use borrow.Author.Tests.{eqb-true, not-false}
 use Rattle.findings.specs.Findings.{Finding, start, put, Found, each}
 use Rattle.findings.proofs.Laws.{part, back, more-lent, found-as}
 use Rattle.book.specs.declared.Header.{Header}
@@ -78,7 +78,3 @@ present-end q s n p h = rw (keys-none s n p h)
 pub no-gens : {s : List ℕ} {h : Header} {at : Places} → Opened s h at → not (eqb (h .gens) 0) ≡ false → bookOf s .gens ≡ []
 unfolding tableFrom
 no-gens {s} {h} {at} o e = rw (eqb-true (h .gens) 0 (not-false _ e)) at (parts o .gens)
-  where
-    not-false : (a : Bool) → not a ≡ false → a ≡ true
-    not-false true e = refl
-    not-false false e = sym e

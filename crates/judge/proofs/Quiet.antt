@@ -1,7 +1,7 @@
 -- A key of which the rules on one key say nothing.
 use Prim.Native.Nat.{ℕ, _+_, _<_}
 use mathlib.Core.Path.{_≡_, refl, sym, _∙_}
-use mathlib.Core.Bool.{Bool, true, false, not, _&&_, _||_}
+use mathlib.Core.Bool.{Bool, true, false, not, _&&_, _||_, and-false}
 use mathlib.Core.List.{List, [], _++_}
 use native.Mathlib.Omega.{arith}
 use lib.ListN.{length, getD}
@@ -13,7 +13,7 @@ use Rattle.book.specs.declared.KeyFront.{KeyFront}
 use Rattle.book.specs.Book.{Bkey, is, keyHead, bookOf}
 use Rattle.walk.specs.Keys.{keyAt, AtKey}
 use Rattle.walk.proofs.Keys.{head-word}
-use Rattle.maps.proofs.Pairs.{both-true}
+use Rattle.pairs.proofs.Order.{both-true}
 use Rattle.fields.specs.Device.{elsewhere, checkKeyDevice}
 use Rattle.fields.specs.Fields.{minimumValue, foreignType, checkPosition, checkKeyFields}
 use Rattle.fields.specs.Steps.{sizeBad}
@@ -36,11 +36,6 @@ device-none : (device i : ℕ) (k : Bkey) → byDevice k ≡ false → checkKeyD
 unfolding checkKeyDevice byDevice
 device-none device i k e = not-filed (elsewhere device k) (eqb (k .btree) 4) (eqb (k .btree) 13) (eqb (k .btree) 14) (finding 1 i 0) (finding 2 i 0) e
 
--- a test of another type
-and-false : (a b : Bool) → b ≡ false → a && b ≡ false
-and-false true b e = e
-and-false false b e = refl
-
 -- one case more
 or-more : (a b c : Bool) → a || c ≡ true → a || (b || c) ≡ true
 or-more true b c e = refl
@@ -48,9 +43,10 @@ or-more false true c e = refl
 or-more false false c e = e
 
 module _ (k : Bkey) (set : k .keyType ≡ 25) where
+  -- a test of another type
   not-is : (b t : ℕ) → eqb 25 t ≡ false → is b t k ≡ false
   unfolding is
-  not-is b t e = and-false (eqb (k .btree) b) (eqb (k .keyType) t) (rw set e)
+  not-is b t e = rw (set, e) (and-false (eqb (k .btree) b))
 
   states-none : (version i : ℕ) → checkStateWords version i k ≡ []
   unfolding checkStateWords only

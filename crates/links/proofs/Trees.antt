@@ -11,6 +11,7 @@ use Rattle.bits.specs.Bits.{leAt}
 use Rattle.findings.specs.Findings.{each, keep}
 use Rattle.pairs.specs.declared.MaybeU64.the-variants as u64
 use Rattle.pairs.specs.Pairs.{pairsOf}
+use Rattle.pairs.proofs.Order.{both-true}
 use Rattle.book.specs.declared.Header.{Header}
 use Rattle.book.specs.declared.Places.{Places}
 use Rattle.book.specs.declared.KeyFront.{KeyFront}
@@ -21,7 +22,7 @@ use Rattle.book.specs.Walk.{frontOf, maybeU32}
 use Rattle.book.proofs.Walk.{parts}
 use Rattle.walk.specs.Keys.{keyAt, AtKey}
 use Rattle.walk.proofs.Gather.{at-long, at-length, long-enough}
-use Rattle.walk.proofs.Sets.{first-true, other-btree}
+use Rattle.walk.proofs.Sets.{other-btree}
 use Rattle.maps.specs.Maps.{mapOf}
 use Rattle.maps.specs.Places.{placePair, whichIn, lastPlace, lastPlaces}
 use Rattle.maps.specs.Sorted.{lastAt}
@@ -51,7 +52,7 @@ module _ (x y : ℕ) (hx : whichIn x ≡ 0) (hy : whichIn y ≡ 1) where
 -- a tree record is no snapshot
 not-snapshot : (k : Bkey) → holds 15 31 8 k ≡ true → holds 9 22 24 k ≡ false
 unfolding holds
-not-snapshot k e = rw (other-btree k 15 31 9 22 (λ (e : 15 ≡ 9). omega arith) (first-true (is 15 31 k) (leb 8 (length (k .value))) e))
+not-snapshot k e = rw (other-btree k 15 31 9 22 (λ (e : 15 ≡ 9). omega arith) (both-true (is 15 31 k) (leb 8 (length (k .value))) e .0))
 
 trees-give : Gives 0 linkPair (holds 15 31 8) idOf
 unfolding linkPair

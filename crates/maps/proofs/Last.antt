@@ -15,13 +15,13 @@ use Rattle.findings.proofs.Walk.{drop-at, drop-past, each-any}
 use Rattle.pairs.specs.declared.MaybeU64.{MaybeU64}
 use Rattle.pairs.specs.declared.MaybeU64.the-variants.{Is, Absent}
 use Rattle.pairs.specs.Pairs.{pairAt, pairsOf, Sorted, orElse}
-use Rattle.pairs.proofs.Order.{tested, same-or-not, sorted-tail, sorted-least}
+use Rattle.pairs.proofs.Order.{tested, both-true, same-or-not, sorted-tail, sorted-least}
 use Rattle.pairs.proofs.Words.{pair-first, pair-second, first, second, length-pairs, pairs-at}
 use Rattle.book.specs.Maps.{lookup}
 use Rattle.maps.specs.Places.{numberIn, whichIn, placeIn, isFor, lastPlace, goesOn, lastPlaces}
 use Rattle.maps.specs.Sorted.{lastAt}
 use Rattle.maps.proofs.Maps.{lookup-here, lookup-past, Above, Rises}
-use Rattle.maps.proofs.Pairs.{both-true, for-parts, parts-for, for-from, for-below, between-for, not-for, last-past, last-here}
+use Rattle.maps.proofs.Pairs.{for-parts, parts-for, for-from, for-below, between-for, not-for, last-past, last-here}
 
 -- a place, as what a map has
 unfoldable pub placeOf : MaybeU64 → Option ℕ

@@ -1,7 +1,7 @@
 -- Laws of pairs of numbers and places, as plain lists: their parts, what is kept of them, the last of a number.
 use Prim.Native.Nat.{ℕ, zero, suc, _+_, _-_, _*_, _^_, _≤_, _<_, zero-le, suc-le-suc}
 use mathlib.Core.Path.{_≡_, refl, sym, ap, _∙_}
-use mathlib.Core.Bool.{Bool, true, false, true≢false, cond, _&&_}
+use mathlib.Core.Bool.{Bool, true, false, cond, _&&_}
 use mathlib.Core.Logic.{⊎-elim}
 use mathlib.Core.List.{List, [], _∷_, _++_}
 use native.Mathlib.Nat.{le-trans, le-of-suc-le-suc, not-suc-le-zero}
@@ -14,7 +14,7 @@ use Rattle.pairs.specs.declared.MaybeU64.{MaybeU64}
 use Rattle.pairs.specs.declared.MaybeU64.the-variants.{Is, Absent}
 use Rattle.pairs.specs.Pairs.{pair, sort, Sorted, countBelow, orElse}
 use Rattle.pairs.specs.Steps.{count, Permuted}
-use Rattle.pairs.proofs.Order.{tested, same-or-not, less-or-not, there, each, sorted-tail, sorted-cons, sorted-least, sort-permuted, sort-sorted, sorted-unique}
+use Rattle.pairs.proofs.Order.{tested, both-true, same-or-not, less-or-not, there, each, sorted-tail, sorted-cons, sorted-least, sort-permuted, sort-sorted, sorted-unique}
 use Rattle.pairs.proofs.Bounds.{bound-inside, bound-before, bound-past}
 use Rattle.maps.specs.Places.{placePair, numberIn, whichIn, placeIn, isFor, lastPlace}
 
@@ -37,10 +37,6 @@ module _ (which number place : ℕ) (w : which < 2 ^ 32) (p : place < 2 ^ 32) wh
   place-for = rw (eq-eqb (numberIn (placePair which number place)) number number-part, eq-eqb (whichIn (placePair which number place)) which which-part)
 
 -- ---- the pairs of a map with a number lie between two bounds
-pub both-true : (a b : Bool) → a && b ≡ true → (a ≡ true) × (b ≡ true)
-both-true true b e = (refl, e)
-both-true false b e = absurd (true≢false (sym e))
-
 module _ (which number v : ℕ) where
   pub for-parts : isFor which number v ≡ true → (numberIn v ≡ number) × (whichIn v ≡ which)
   unfolding isFor

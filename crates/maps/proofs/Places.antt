@@ -1,7 +1,7 @@
 -- The main laws: the pairs that a walk over the keys put, sorted, are the map that `mapOf` makes.
 use Prim.Native.Nat.{ℕ, zero, suc, _+_, _*_, _%_, _^_, _≤_, _<_}
 use mathlib.Core.Path.{_≡_, refl, sym, ap, ap₂, _∙_, subst}
-use mathlib.Core.Bool.{Bool, true, false, cond, _&&_, _||_}
+use mathlib.Core.Bool.{Bool, true, false, cond, _&&_}
 use mathlib.Core.List.{List, [], _∷_, _++_, map}
 use mathlib.Core.Option.{Option, none, some}
 use native.Mathlib.Nat.{le-refl, le-trans, not-suc-le-zero}
@@ -14,7 +14,7 @@ use Rattle.pairs.specs.declared.MaybeU64.{MaybeU64}
 use Rattle.pairs.specs.declared.MaybeU64.the-variants.{Is, Absent}
 use Rattle.pairs.specs.Pairs.{pair, pairsOf, sort, Sorted, has, orElse}
 use Rattle.pairs.specs.Steps.{count}
-use Rattle.pairs.proofs.Order.{same-or-not, there, sorted-tail, sorted-cons, sort-sorted, sorted-by}
+use Rattle.pairs.proofs.Order.{both-true, same-or-not, there, sorted-tail, sorted-cons, sort-sorted, sorted-by}
 use Rattle.pairs.proofs.Bounds.{has-sort}
 use Rattle.pairs.proofs.Words.{length-pairs}
 use Rattle.book.specs.declared.KeyFront.{KeyFront}
@@ -23,12 +23,12 @@ use Rattle.book.specs.Book.{Bkey, keyHead, keyEnd, keysFrom}
 use Rattle.book.specs.Walk.{KeysFit, frontOf}
 use Rattle.book.proofs.Laws.{key-end}
 use Rattle.walk.specs.Keys.{keyAt, AtKey, gather, anyKey}
-use Rattle.walk.proofs.Sets.{has-nil, has-append}
+use Rattle.walk.proofs.Sets.{any-by}
 use Rattle.maps.specs.Maps.{mapOf}
 use Rattle.maps.specs.Places.{placePair, numberIn, whichIn, placeIn, isFor, lastPlace, lastPlaces}
 use Rattle.maps.specs.Sorted.{AllPairs, lastAt}
 use Rattle.maps.proofs.Maps.{orSome, lastFor, some-none, collect-lookup, collect-rises, rises-same, map-lookup, map-rises}
-use Rattle.maps.proofs.Pairs.{number-part, place-part, place-for, both-true, for-parts, parts-for, keep-append, keep-parts, kept-there, keep-sort, last-kept, last-holds}
+use Rattle.maps.proofs.Pairs.{number-part, place-part, place-for, for-parts, parts-for, keep-append, keep-parts, kept-there, keep-sort, last-kept, last-holds}
 use Rattle.maps.proofs.Last.{placeOf, sorted-from, places-lookup, places-rise, number-at, place-at, last-which}
 
 -- of the pairs that a key gives, those of a map are its number and place, where it passes the map's test
@@ -214,15 +214,7 @@ pub held-at : {test : Bkey → Bool} {number : Bkey → ℕ} {s : List ℕ} {x q
 held-at small h e = record { small = small; inside = h .inside; front = e }
 
 -- ---- sets of numbers among the pairs
-any-near : (x : ℕ) (of : ℕ → Bkey → List ℕ) (test : Bkey → Bool) (s : List ℕ) → length s ≤ 1048576 → ((p : ℕ) (k : Bkey) → p < 2 ^ 32 → has x (of p k) ≡ test k)
-    → (n p : ℕ) → KeysFit s n p → has x (gather of s n p) ≡ anyKey test (keysFrom s n p)
-unfolding gather keysFrom anyKey KeysFit
-any-near x of test s few one zero p fit = has-nil x
-any-near x of test s few one (suc n) p fit =
-    has-append x (of p (keyAt s p)) (gather of s n (keyEnd s p))
-    ∙ ap₂ (λ (a b : Bool). a || b) (one p (keyAt s p) (omega (arith, key-end s p, fit .0))) (any-near x of test s few one n (keyEnd s p) (fit .1))
-
 -- a pair is among those of all keys if some key gives it
 pub set-law : {of : ℕ → Bkey → List ℕ} {s : List ℕ} {n p : ℕ} {xs : List ℕ} (x : ℕ) (test : Bkey → Bool) → ((p : ℕ) (k : Bkey) → p < 2 ^ 32 → has x (of p k) ≡ test k)
     → AllPairs of s n p xs → has x xs ≡ anyKey test (keysFrom s n p)
-set-law {of} {s} {n} {p} x test one a = ap (has x) (a .all) ∙ has-sort x (gather of s n p) ∙ any-near x of test s (a .small) one n p (a .fit)
+set-law {of} {s} {n} {p} x test one a = ap (has x) (a .all) ∙ has-sort x (gather of s n p) ∙ any-by x of test s (a .small) one n p (a .fit)

@@ -1,9 +1,9 @@
 -- The laws of `countBelow`, `has` and `isSorted`.
 use Prim.Native.Nat.{ℕ, zero, suc, _+_, _≤_, _<_, zero-le, suc-le-suc}
 use mathlib.Core.Path.{_≡_, refl, sym, ap, _∙_}
-use mathlib.Core.Bool.{true, false, true≢false}
+use mathlib.Core.Bool.{true, false, true≢false, _||_, or-assoc}
 use mathlib.Core.Logic.{⊎-elim}
-use mathlib.Core.List.{List, [], _∷_}
+use mathlib.Core.List.{List, [], _∷_, _++_}
 use native.Mathlib.Nat.{zero-add, le-trans, le-antisymm, le-of-suc-le-suc, lt-of-le-of-lt, not-suc-le-zero}
 use native.Mathlib.Omega.{arith}
 use lib.ListN.{length, getD}
@@ -57,6 +57,12 @@ has-counted x (y ∷ ys) = ⊎-elim
     (λ t. rw t (sym (lt-ltb 0 (1 + count x ys) (omega arith))))
     (λ t. rw t (has-counted x ys ∙ ap (ltb 0) (sym (zero-add (count x ys)))))
     (tested (eqb x y))
+
+-- one list after another
+pub has-append : (x : ℕ) (xs ys : List ℕ) → has x (xs ++ ys) ≡ has x xs || has x ys
+unfolding has
+has-append x [] ys = refl
+has-append x (y ∷ xs) ys = rw (has-append x xs ys) (sym (or-assoc (eqb x y) (has x xs) (has x ys)))
 
 -- a list sorted has the same numbers
 pub has-sort : (x : ℕ) (xs : List ℕ) → has x (sort xs) ≡ has x xs

@@ -1,7 +1,7 @@
 -- The ids above a snapshot, by those above its parent, its child, or another snapshot with the same parent.
 use Prim.Native.Nat.{ℕ, zero, suc, _+_, _-_, _<_, min}
 use mathlib.Core.Path.{_≡_, refl, sym, ap, _∙_}
-use mathlib.Core.Bool.{Bool, true, false, cond, _&&_}
+use mathlib.Core.Bool.{true, cond}
 use mathlib.Core.List.{List, [], _∷_}
 use mathlib.Core.Option.{Option, none, some}
 use native.Mathlib.Omega.{arith}
@@ -20,11 +20,6 @@ use Rattle.parents.specs.declared.Ancestors.{Ancestors}
 use Rattle.parents.specs.declared.Line.{Line}
 use Rattle.parents.proofs.Links.{clash, link, by-link, by-step, link-top, link-absent, chain-more, chain-end, root-more, root-full, root-here, root-absent}
 use Rattle.parents.proofs.Laws.{root-at, one-more, chain-le, root-length, lined-few, array-is, root-is}
-
--- two tests that both hold
-pub both-true : (a b : Bool) → a && b ≡ true → (a ≡ true) × (b ≡ true)
-both-true true b e = (refl, e)
-both-true false b e = clash (cc)
 
 -- a root at most n links away
 unfoldable within : ℕ → Option (ℕ × ℕ) → Option (ℕ × ℕ)

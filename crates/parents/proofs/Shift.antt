@@ -1,7 +1,7 @@
 -- Laws of the loops over an array of ids.
 use Prim.Native.Nat.{ℕ, suc, _+_, _-_, _≤_, _<_}
 use mathlib.Core.Path.{_≡_, sym, ap, _∙_}
-use mathlib.Core.Bool.{_||_, or-assoc, or-false}
+use mathlib.Core.Bool.{_||_, or-false}
 use mathlib.Core.List.{List, [], _∷_, _++_, append-assoc}
 use native.Mathlib.Numerals.{add-one}
 use native.Mathlib.Omega.{arith}
@@ -9,15 +9,12 @@ use lib.ListN.{length, getD, set, take, drop, length-take, length-drop, length-a
 use lib.Seq.{take-suc, drop-cons, set-at, take-at, getD-append-add, getD-drop}
 use lib.Dec.{eqb}
 use Rattle.pairs.specs.Pairs.{has}
-
-has-last : (x : ℕ) (ys : List ℕ) (y : ℕ) → has x (ys ++ (y ∷ [])) ≡ has x ys || eqb x y
-unfolding has
-has-last x [] y = or-false (eqb x y)
-has-last x (z ∷ zs) y = rw (has-last x zs y) (sym (or-assoc (eqb x z) (has x zs) (eqb x y)))
+use Rattle.pairs.proofs.Bounds.{has-append}
 
 -- whether x is among the first i ids, and the next
 pub has-more : (x : ℕ) (ids : List ℕ) (i : ℕ) → i < length ids → has x (take i ids) || eqb x (getD ids i 0) ≡ has x (take (i + 1) ids)
-has-more x ids i h = sym (rw (add-one i, take-suc ids i 0 h) (has-last x (take i ids) (getD ids i 0)))
+unfolding has
+has-more x ids i h = sym (rw (add-one i, take-suc ids i 0 h, has-append x (take i ids) (getD ids i 0 ∷ []), or-false))
 
 -- an array whose first i places are filled from a list; the rest is as it was
 module _ (xs array : List ℕ) where

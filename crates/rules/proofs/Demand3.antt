@@ -1,6 +1,6 @@
 -- Demand 3 on the list of all rules: of their findings those of `snapshot_links` alone can be of a forest kind.
 use Prim.Native.Nat.{ℕ, _<_}
-use mathlib.Core.Bool.{Bool, true, false, not, _&&_, _||_}
+use mathlib.Core.Bool.{Bool, true, false, true≢false, not, _&&_, _||_}
 use mathlib.Core.Logic.{_↔_, ⊎-elim}
 use mathlib.Core.List.{List, [], _∷_, _++_, List·Memᴰ·append-cases}
 use mathlib.Core.Path.{_≡_, refl, ap, sym, _∙_}
@@ -19,7 +19,7 @@ use Rattle.buckets.specs.Gens.{bucketGensAgainstAlloc}
 use Rattle.buckets.specs.FreeSpace.{freeSpace}
 use Rattle.forest.specs.Lists.{_∈_}
 use Rattle.forest.specs.Forest.{ForestBook, forestKinds, Absent, Demand3}
-use Rattle.forest.proofs.Absent.{true-not-false, absent-append, absent-kinds}
+use Rattle.forest.proofs.Absent.{absent-append, absent-kinds}
 use Rattle.forest.proofs.Theorem.{forest}
 use Rattle.rules.specs.Rules.{keyFindings, findingsOf}
 use Rattle.rules.specs.Kinds.{Within, apart}
@@ -28,12 +28,12 @@ use Rattle.rules.proofs.RuleKinds.{key-kinds, subvolume-kinds, claim-ki
 -- a kind of a list that is apart from another is not in that
 apart-has : (x : ℕ) (ks ls : List ℕ) → apart ks ls ≡ true → has x ks ≡ true → has x ls ≡ false
 unfolding apart has
-apart-has x [] ls a h = true-not-false (sym h)
+apart-has x [] ls a h = absurd (true≢false (sym h))
 apart-has x (k ∷ ks) ls a h = go (eqb x k) (has k ls) refl refl a h (λ a h. apart-has x ks ls a h)
   where
     go : (e l : Bool) → eqb x k ≡ e → has k ls ≡ l → not l && apart ks ls ≡ true → e || has x ks ≡ true
         → (apart ks ls ≡ true → has x ks ≡ true → has x ls ≡ false) → has x ls ≡ false
-    go e true q w a h ih = true-not-false (sym a)
+    go e true q w a h ih = absurd (true≢false (sym a))
     go true false q w a h ih = ap (λ (y : ℕ). has y ls) (eqb-true x k q) ∙ w
     go false false q w a h ih = ih a h
 
@@ -79,11 +79,11 @@ below (k ∷ ks) = ltb k 256 && below ks
 
 below-has : (x : ℕ) (ks : List ℕ) → below ks ≡ true → has x ks ≡ true → x < 256
 unfolding below has
-below-has x [] a h = true-not-false (sym h)
+below-has x [] a h = absurd (true≢false (sym h))
 below-has x (k ∷ ks) a h = go (eqb x k) (ltb k 256) refl refl a h (λ a h. below-has x ks a h)
   where
     go : (e l : Bool) → eqb x k ≡ e → ltb k 256 ≡ l → l && below ks ≡ true → e || has x ks ≡ true → (below ks ≡ true → has x ks ≡ true → x < 256) → x < 256
-    go e false q w a h ih = true-not-false (sym a)
+    go e false q w a h ih = absurd (true≢false (sym a))
     go true true q w a h ih = omega (arith, eqb-true x k q, ltb-true k 256 w)
     go false true q w a h ih = ih a h
 

@@ -1,21 +1,21 @@
 -- What the code computes of subvolumes and entries is what the rule asks of them.
 use Prim.Native.Nat.{ℕ, zero, suc, _+_, _*_, _%_, _^_, _≤_, _<_, min}
 use mathlib.Core.Path.{_≡_, refl, sym, ap, _∙_}
-use mathlib.Core.Bool.{Bool, true, false, true≢false, cond, not, _&&_, _||_}
+use mathlib.Core.Bool.{Bool, true, false, true≢false, cond, not, _&&_, _||_, or-true}
 use mathlib.Core.Logic.{⊎-elim}
 use mathlib.Core.List.{List, [], _∷_, _++_}
 use mathlib.Core.Option.{Option, none, some}
 use native.Mathlib.Omega.{arith}
 use lib.ListN.{length, getD, drop}
 use lib.Dec.{eqb, leb}
-use borrow.Author.Tests.{eq-eqb, ne-eqb, eqb-true, le-leb, lt-leb, leb-false, ltb-true, le-ltb}
+use borrow.Author.Tests.{eq-eqb, ne-eqb, eqb-true, le-leb, lt-leb, leb-false, ltb-true, le-ltb, not-false}
 use Rattle.bits.specs.Bits.{leAt}
 use Rattle.findings.specs.Findings.{Finding, finding, when, only, keep, each}
 use Rattle.findings.proofs.Walk.{drop-at, drop-past}
 use Rattle.pairs.specs.declared.MaybeU64.the-variants as u64
 use Rattle.pairs.specs.Pairs.{pair, pairsOf, has}
-use Rattle.pairs.proofs.Order.{tested, same-or-not}
-use Rattle.pairs.proofs.Bounds.{has-sort}
+use Rattle.pairs.proofs.Order.{tested, both-true, both-false, same-or-not}
+use Rattle.pairs.proofs.Bounds.{has-append, has-sort}
 use Rattle.pairs.proofs.Words.{pair-first, pair-second, second, length-pairs}
 use Rattle.book.specs.declared.Header.{Header}
 use Rattle.book.specs.declared.Places.{Places}
@@ -28,7 +28,7 @@ use Rattle.book.proofs.Walk.{parts}
 use Rattle.states.specs.Distance.{subvolDeleted}
 use Rattle.walk.specs.Keys.{keyAt, AtKey, gather, anyKey}
 use Rattle.walk.proofs.Gather.{at-length, at-long, long-enough}
-use Rattle.walk.proofs.Sets.{first-true, has-nil, has-append, other-btree}
+use Rattle.walk.proofs.Sets.{has-nil, other-btree}
 use Rattle.maps.specs.Maps.{mapOf}
 use Rattle.maps.specs.Places.{placePair, numberIn, whichIn, lastPlace, lastPlaces}
 use Rattle.maps.specs.Sorted.{AllPairs}
@@ -59,7 +59,7 @@ module _ {s : List ℕ} {p : ℕ} {f : KeyFront} (k : AtKey s p f) where
   unfolding hasFsParent holds
   parent-word e =
       let key = keyAt s p in
-      omega (arith, at-length k, long-enough (is 8 21 key) 24 (length (key .value)) (first-true (is 8 21 key && leb 24 (length (key .value))) (not (isDeleted key)) e))
+      omega (arith, at-length k, long-enough (is 8 21 key) 24 (length (key .value)) (both-true (is 8 21 key && leb 24 (length (key .value))) (not (isDeleted key)) e .0))
 
 -- ---- the pair that a key gives
 pub child-subvolume : (p : ℕ) (k : Bkey) → hasFsParent k ≡ true → {o : ℕ} → o ≡ k .offset → pair o p ∷ [] ≡ childPair p k
@@ -112,7 +112,7 @@ other-pair child parent offset p h i = ne-eqb (pair child (4294967296 + parent))
 subvolume-entry : (k : Bkey) → hasFsParent k ≡ true → isEntry k ≡ false
 unfolding hasFsParent holds
 subvolume-entry k e =
-    let subvolume = first-true (is 8 21 k) (leb 24 (length (k .value))) (first-true (is 8 21 k && leb 24 (length (k .value))) (not (isDeleted k)) e) in
+    let subvolume = both-true (is 8 21 k) (leb 24 (length (k .value))) (both-true (is 8 21 k && leb 24 (length (k .value))) (not (isDeleted k)) e .0) .0 in
     other-btree k 8 21 19 25 (λ z. absurd (omega arith)) subvolume
 
 has-one : (x y : ℕ) {b : Bool} → eqb x y ≡ b → has x (y ∷ []) ≡ b
@@ -159,15 +159,11 @@ module _ {s : List ℕ} {h : Header} {at : Places} (o : Opened s h at) {xs : Lis
   missing-all = ap (each (λ _ e. missingEntry (bookOf s .keys) e) 0) parents-are ∙ each-map subvolumes a (word 20) (missingEntry (bookOf s .keys))
 
 -- ---- where no pair is wrong, no entry is
-neither : (a b : Bool) → a || b ≡ false → (a ≡ false) × (b ≡ false)
-neither true b e = absurd (true≢false e)
-neither false b e = (refl, e)
-
 wrong-pair : (m : List (ℕ × ℕ)) (x : ℕ) (xs : List ℕ) → anyWrong m xs ≡ false → has x xs ≡ true → wrongWord (x % 2 ^ 64) (maybeU32 (lookup (numberIn x) m)) ≡ false
 unfolding anyWrong has
 wrong-pair m x [] e h = absurd (true≢false (sym h))
 wrong-pair m x (y ∷ ys) e h =
-    let both = neither (wrongWord (y % 2 ^ 64) (maybeU32 (lookup (numberIn y) m))) (anyWrong m ys) e in
+    let both = both-false (wrongWord (y % 2 ^ 64) (maybeU32 (lookup (numberIn y) m))) (anyWrong m ys) e in
     ⊎-elim
     (λ t. rw (eqb-true x y t) (both .0))
     (λ t. wrong-pair m x ys (both .1) (rw t at h))
@@ -189,21 +185,13 @@ entry-right : (m : List (ℕ × ℕ)) (k : Bkey) → let x = placePair 1 (k .off
 unfolding numberIn placePair wrongWord maybeU32 wrongEntry
 entry-right m k e = by (lookup (k .offset) m) (rw (pair-first (k .offset) (1 * 2 ^ 32 + min (k .inode) (2 ^ 32)) (omega arith), pair-second (k .offset) (1 * 2 ^ 32 + min (k .inode) (2 ^ 32)) (omega arith)) at e)
   where
-    not-false : {b : Bool} → not b ≡ false → b ≡ true
-    not-false {b = true} e = refl
-    not-false {b = false} e = absurd (true≢false e)
-
     by : (o : Option ℕ) → wrongWord (1 * 2 ^ 32 + min (k .inode) (2 ^ 32)) (maybeU32 o) ≡ false → wrongEntry k o ≡ []
-    by none e = absurd (omega (arith, ltb-true (1 * 2 ^ 32 + min (k .inode) (2 ^ 32)) (2 ^ 32) (not-false e)))
+    by none e = absurd (omega (arith, ltb-true (1 * 2 ^ 32 + min (k .inode) (2 ^ 32)) (2 ^ 32) (not-false _ e)))
     by (some parent) e =
         let big = le-ltb (1 * 2 ^ 32 + min (k .inode) (2 ^ 32)) (2 ^ 32) (omega arith) in
-        let both = neither (leb (2 ^ 33) (1 * 2 ^ 32 + min (k .inode) (2 ^ 32))) (not (eqb (1 * 2 ^ 32 + min (k .inode) (2 ^ 32)) (2 ^ 32 + parent))) (rw big at e) in
-        let same = eqb-true (1 * 2 ^ 32 + min (k .inode) (2 ^ 32)) (2 ^ 32 + parent) (not-false (both .1)) in
+        let both = both-false (leb (2 ^ 33) (1 * 2 ^ 32 + min (k .inode) (2 ^ 32))) (not (eqb (1 * 2 ^ 32 + min (k .inode) (2 ^ 32)) (2 ^ 32 + parent))) (rw big at e) in
+        let same = eqb-true (1 * 2 ^ 32 + min (k .inode) (2 ^ 32)) (2 ^ 32 + parent) (not-false _ (both .1)) in
         unfold when in rw (eq-eqb parent (k .inode) (omega (arith, leb-false (2 ^ 33) (1 * 2 ^ 32 + min (k .inode) (2 ^ 32)) (both .0))))
-
-or-true : (b : Bool) → (b || true) ≡ true
-or-true true = refl
-or-true false = refl
 
 -- the pair of an entry is there
 entry-has : (p : ℕ) (k : Bkey) → isEntry k ≡ true → has (placePair 1 (k .offset) (min (k .inode) (2 ^ 32))) (childPair p k) ≡ true

@@ -12,7 +12,7 @@ use Rattle.findings.specs.Findings.{finding, when, only}
 use Rattle.book.specs.Book.{Bkey, is}
 use Rattle.states.specs.Distance.{stateDistance, snapStates, subvolStates}
 use Rattle.states.specs.Steps.{wordOrZero}
-use Rattle.walk.proofs.Sets.{first-true}
+use Rattle.walk.proofs.Sets.{both-true}
 use Rattle.states.specs.Words.{stateRequired, snapStateWord, snapshotState, subvolStateUnset, subvolumeWord, subvolumeState, checkStateWords}
 
 -- a snapshot's findings, from its word, the distance and the version's test
@@ -68,13 +68,13 @@ subvolume-findings version i value w p =
 snapshot-only : (k : Bkey) → is 9 22 k ≡ true → is 8 21 k ≡ false
 unfolding is
 snapshot-only k e =
-    let nine = eqb-true (k .btree) 9 (first-true _ _ e) in
+    let nine = eqb-true (k .btree) 9 (both-true _ _ e .0) in
     rw (ne-eqb (k .btree) 8 (λ eight. absurd (omega arith)))
 
 module _ (version i : ℕ) (k : Bkey) where
   pub of-snapshot : is 9 22 k && leb 24 (length (k .value)) ≡ true → snapshotState version i (k .value) ≡ checkStateWords version i k
   unfolding checkStateWords only
-  of-snapshot e = rw (e, snapshot-only k (first-true _ _ e), append-nil)
+  of-snapshot e = rw (e, snapshot-only k (both-true _ _ e .0), append-nil)
 
   pub of-subvolume : is 9 22 k && leb 24 (length (k .value)) ≡ false → is 8 21 k ≡ true → subvolumeState version i (k .value) ≡ checkStateWords version i k
   unfolding checkStateWords only

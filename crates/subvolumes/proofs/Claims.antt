@@ -9,6 +9,7 @@ use lib.Dec.{eqb, leb}
 use borrow.Author.Tests.{le-leb, lt-leb}
 use Rattle.bits.specs.Bits.{leAt}
 use Rattle.pairs.specs.Pairs.{pair}
+use Rattle.pairs.proofs.Order.{both-true}
 use Rattle.book.specs.declared.KeyFront.{KeyFront}
 use Rattle.book.specs.Book.{is, keyEnd, keysFrom}
 use Rattle.states.specs.Distance.{distance, subvolDeleted}
@@ -16,7 +17,6 @@ use Rattle.subvolumes.specs.Subvolumes.{subvolState, claims, claimed}
 use Rattle.walk.specs.Keys.{keyAt, AtKey, gather}
 use Rattle.subvolumes.specs.Steps.{claimPair}
 use Rattle.walk.proofs.Gather.{at-length, at-long, long-enough}
-use Rattle.walk.proofs.Sets.{first-true}
 
 module _ {s : List ℕ} {p : ℕ} {f : KeyFront} (k : AtKey s p f) where
   pub claims-short : (eqb (f .btree) 8 && eqb (f .«key_type») 21) && leb 8 (f .len) ≡ true → f .len < 44 → true ≡ claims (keyAt s p)
@@ -37,7 +37,7 @@ module _ {s : List ℕ} {p : ℕ} {f : KeyFront} (k : AtKey s p f) where
   unfolding claims
   claims-word e =
       let key = keyAt s p in
-      let test = first-true (is 8 21 key && leb 8 (length (key .value))) (not (leb 44 (length (key .value)) && leb (distance (subvolState key) subvolDeleted) 2)) e in
+      let test = both-true (is 8 21 key && leb 8 (length (key .value))) (not (leb 44 (length (key .value)) && leb (distance (subvolState key) subvolDeleted) 2)) e .0 in
       omega (arith, at-length k, long-enough (is 8 21 key) 8 (length (key .value)) test)
 
 -- the pair that a key gives

@@ -5,11 +5,11 @@ use mathlib.Core.List.{List, [], _∷_, _++_, append-nil}
 use native.Mathlib.Nat.{add-zero, le-refl}
 use native.Mathlib.Numerals.{add-one}
 use native.Mathlib.Omega.{arith}
-use lib.ListN.{length, getD, take, drop, length-drop, take-append-drop}
+use lib.ListN.{length, getD}
 use lib.Dec.{eqb}
 use borrow.Author.Tests.{eq-eqb, ne-eqb}
-use Rattle.findings.specs.Findings.{Finding, finding, only, each, start, putFrom, Added}
-use Rattle.findings.proofs.Laws.{put-full, added-nil, added-as, added-more}
+use Rattle.findings.specs.Findings.{Finding, finding, only, each, Added}
+use Rattle.findings.proofs.Laws.{added-nil, added-full, added-as, added-more}
 use Rattle.findings.proofs.Walk.{each-any, each-append}
 use Rattle.pairs.specs.Pairs.{pair, pairAt, pairsOf, Sorted, countBelow}
 use Rattle.pairs.proofs.Order.{same-or-not, less-or-not}
@@ -86,16 +86,6 @@ pub before-end : (w : List ℕ) (n group : ℕ) {i e : ℕ} → GroupFrom w n (g
 before-end w n group {i} {e} next l g = less-or-not i e (λ a. a) (λ b. absurd (omega (arith, next .above i b l)))
 
 -- ---- a walk over a group
-
--- findings that a buffer has no room for
-added-full : {o : List ℕ} {n : ℕ} {fs : List Finding} → length o / 17 ≤ n → Added o n fs (n + length fs) o
-unfolding putFrom
-added-full {o} {n} {fs} h =
-    let at = start (length o) n in
-    record {
-      count = refl;
-      buffer = sym (ap (λ (l : List ℕ). take at o ++ l) (put-full (drop at o) fs (omega (arith, length-drop at o))) ∙ take-append-drop at o);
-    }
 
 -- the pairs of a group, from `from` on, gave their findings up to pair i, after m others: `found` in all, and the buffer, which was o, is o′ now
 pub record Shown (s w : List ℕ) (n kind group id from : ℕ) (o : List ℕ) (m i found : ℕ) (o′ : List ℕ) : Type 0 where

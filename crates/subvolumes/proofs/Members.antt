@@ -1,7 +1,7 @@
 -- The groups of sorted pairs give the findings of the keys that are in them, so what they say of a subvolume is what the rule says.
 use Prim.Native.Nat.{ℕ, zero, suc, _+_, _*_, _/_, _%_, _^_, _≤_, _<_}
 use mathlib.Core.Path.{_≡_, refl, sym, ap, ap₂, _∙_}
-use mathlib.Core.Bool.{Bool, true, false, true≢false, cond, _&&_, _||_}
+use mathlib.Core.Bool.{Bool, true, false, cond, _&&_, _||_, and-true, and-false}
 use mathlib.Core.List.{List, [], _∷_, _++_, append-nil}
 use native.Mathlib.Nat.{le-refl, le-trans, not-suc-le-zero}
 use native.Mathlib.Omega.{arith}
@@ -13,7 +13,7 @@ use Rattle.findings.specs.Findings.{Finding, finding, when, only, each, keep}
 use Rattle.findings.proofs.Walk.{each-any, each-keep, each-same}
 use Rattle.pairs.specs.Pairs.{pair, pairsOf, sort, Sorted}
 use Rattle.pairs.specs.Steps.{count, Permuted}
-use Rattle.pairs.proofs.Order.{same-or-not, there, sorted-tail, sorted-cons, sort-sorted, sort-permuted, sorted-by}
+use Rattle.pairs.proofs.Order.{both-true, both-false, same-or-not, there, sorted-tail, sorted-cons, sort-sorted, sort-permuted, sorted-by}
 use Rattle.pairs.proofs.Words.{pair-first, pair-second, length-pairs, second}
 use Rattle.book.specs.Book.{Bkey, Book, is, keyEnd, keysFrom}
 use Rattle.book.specs.Walk.{KeysFit}
@@ -25,7 +25,6 @@ use Rattle.subvolumes.specs.Subvolumes.{isLiveSnapshot, hasSubvolState, 
 use Rattle.walk.specs.Keys.{keyAt, gather, anyKey}
 use Rattle.subvolumes.specs.Steps.{isTree, inGroup, groupOf, statePair, Grouped, groupFindings, judged}
 use Rattle.subvolumes.proofs.Groups.{Words, group-append, group-nil, group-pair}
-use Rattle.walk.proofs.Sets.{first-true}
 
 -- ---- a group, key after key
 
@@ -39,14 +38,6 @@ odd-same : (w id : ℕ) → eqb (2 * w + 1) (2 * id + 1) ≡ eqb w id
 odd-same w id = same-or-not w id
     (λ e. eq-eqb (2 * w + 1) (2 * id + 1) (omega arith) ∙ sym (eq-eqb w id e))
     (λ d. ne-eqb (2 * w + 1) (2 * id + 1) (λ e. d (omega arith)) ∙ sym (ne-eqb w id d))
-
-and-true : (b : Bool) → b && true ≡ b
-and-true true = refl
-and-true false = refl
-
-and-false : (b : Bool) → b && false ≡ false
-and-false true = refl
-and-false false = refl
 
 -- a key is in an even group where it is a live snapshot, in an odd one where it is a tree record
 snapshot-by : (a l t : Bool) (w v id : ℕ) → ((a && l) || t) && eqb (cond (a && l) (2 * w) (2 * v + 1)) (2 * id) ≡ a && (eqb w id && l)
@@ -62,8 +53,8 @@ tree-by false t w v id d = ap (λ (b : Bool). t && b) (odd-same v id)
 not-both : (k : Bkey) → isLiveSnapshot k ≡ true → isTree k ≡ false
 unfolding isLiveSnapshot isTree is
 not-both k e =
-    let long = first-true _ (eqb (leAt (k .value) 56 4) snapLive) e in
-    let nine = eqb-true (k .btree) 9 (first-true _ (eqb (k .keyType) 22) (first-true _ (leb 60 (length (k .value))) long)) in
+    let long = both-true _ (eqb (leAt (k .value) 56 4) snapLive) e .0 in
+    let nine = eqb-true (k .btree) 9 (both-true _ (eqb (k .keyType) 22) (both-true _ (leb 60 (length (k .value))) long .0) .0) in
     rw (ne-eqb (k .btree) 15 (λ other. absurd (omega arith)))
 
 snapshot-key : (id : ℕ) (k : Bkey) → inGroup k && eqb (groupOf k) (2 * id) ≡ liveSnapshotOf id k
@@ -199,14 +190,10 @@ judged-all b s n p {xs} small fit keys pairs =
     0 (b .keys)
 
 -- without an unavailable subvolume there is nothing to find
-neither : (a b : Bool) → a || b ≡ false → (a ≡ false) × (b ≡ false)
-neither true b e = absurd (true≢false e)
-neither false b e = (refl, e)
-
 none-gone : (b : Book) (i : ℕ) (ks : List Bkey) → anyKey unavailable ks ≡ false → each (λ _ k. only (unavailable k) (subvolumeFindings b k)) i ks ≡ []
 unfolding anyKey each only
 none-gone b i [] e = refl
-none-gone b i (k ∷ ks) e = let none = neither (unavailable k) (anyKey unavailable ks) e in rw (none .0) (none-gone b (suc i) ks (none .1))
+none-gone b i (k ∷ ks) e = let none = both-false (unavailable k) (anyKey unavailable ks) e in rw (none .0) (none-gone b (suc i) ks (none .1))
 
 pub states-none : (b : Book) → anyKey unavailable (b .keys) ≡ false → subvolumeStates b ≡ []
 unfolding subvolumeStates
@@ -228,19 +215,15 @@ module _ (s xs : List ℕ) (k : Bkey) where
     unfolding judged only subvolState
     judged-deleted h = rw (gone, ← state, eq-eqb w subvolDeleted h, ← offset)
 
-second-true : (a b : Bool) → a && b ≡ true → b ≡ true
-second-true true b e = e
-second-true false b e = absurd (true≢false (sym e))
-
 -- an unavailable subvolume has its state word and an id of 32 bits
 pub gone-long : (k : Bkey) → unavailable k ≡ true → 44 ≤ length (k .value)
 unfolding unavailable hasSubvolState
 gone-long k e =
     let rest = (eqb (subvolState k) subvolUnlinked || eqb (subvolState k) subvolDeleted) && leb (k .offset) 4294967295 in
-    leb-true 44 (length (k .value)) (second-true (is 8 21 k) _ (first-true (is 8 21 k && leb 44 (length (k .value))) rest e))
+    leb-true 44 (length (k .value)) (both-true (is 8 21 k) _ (both-true (is 8 21 k && leb 44 (length (k .value))) rest e .0) .1)
 
 pub gone-small : (k : Bkey) → unavailable k ≡ true → k .offset ≤ 4294967295
 unfolding unavailable
 gone-small k e =
     let state = eqb (subvolState k) subvolUnlinked || eqb (subvolState k) subvolDeleted in
-    leb-true (k .offset) 4294967295 (second-true state _ (second-true (hasSubvolState k) _ e))
+    leb-true (k .offset) 4294967295 (both-true state _ (both-true (hasSubvolState k) _ e .1) .1)

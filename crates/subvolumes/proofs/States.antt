@@ -8,6 +8,7 @@ use lib.ListN.{length}
 use lib.Dec.{eqb, leb}
 use Rattle.bits.specs.Bits.{leAt}
 use Rattle.pairs.specs.Pairs.{pair}
+use Rattle.pairs.proofs.Order.{both-true}
 use Rattle.book.specs.declared.KeyFront.{KeyFront}
 use Rattle.book.specs.Book.{Bkey, is, keyEnd, keysFrom}
 use Rattle.book.specs.Walk.{KeysFit}
@@ -17,7 +18,6 @@ use Rattle.subvolumes.specs.Subvolumes.{isLiveSnapshot, hasSubvolState, 
 use Rattle.walk.specs.Keys.{keyAt, AtKey, anyKey}
 use Rattle.subvolumes.specs.Steps.{isTree, inGroup, groupOf, statePair}
 use Rattle.walk.proofs.Gather.{at-length, at-long, long-enough}
-use Rattle.walk.proofs.Sets.{first-true}
 
 module _ {s : List ℕ} {p : ℕ} {f : KeyFront} (k : AtKey s p f) where
   pub gone-yes : (eqb (f .btree) 8 && eqb (f .«key_type») 21) && leb 44 (f .len) ≡ true → {w o : ℕ} → w ≡ leAt (keyAt s p .value) 40 4 → o ≡ keyAt s p .offset
@@ -47,7 +47,7 @@ module _ {s : List ℕ} {p : ℕ} {f : KeyFront} (k : AtKey s p f) where
   unfolding isLiveSnapshot
   live-long e =
       let key = keyAt s p in
-      let test = first-true (is 9 22 key && leb 60 (length (key .value))) (eqb (leAt (key .value) 56 4) snapLive) e in
+      let test = both-true (is 9 22 key && leb 60 (length (key .value))) (eqb (leAt (key .value) 56 4) snapLive) e .0 in
       omega (arith, at-length k, long-enough (is 9 22 key) 60 (length (key .value)) test)
 
   -- the pair that a key gives

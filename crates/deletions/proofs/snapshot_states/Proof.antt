@@ -15,7 +15,8 @@ returns c =
     let a = c .before .before .before .before .before .before .before .before .before .before .before .before .before .before .before .before .args in
     let s = a .book .now in
     let sorted = c .before .before .before .before .before .before .before .sort-pairs .ensures .0 ∙ ap sort (c .before .before .before .before .before .before .before .before .before .before .before .put-sets .ensures .0) in
-    (rw (← sets-all (bookOf s) s (a .h .keys) (a .at .keys) (parts (c .before .before .before .before .before .before .before .before .before .before .before .before .before .before .before .before .pre .0) .keys) sorted) (c .before .before .show-snapshots .ensures .0), omega arith)
+    let all = parts (c .before .before .before .before .before .before .before .before .before .before .before .before .before .before .before .before .pre .0) in
+    (rw (← sets-all (bookOf s) s (a .h .keys) (a .at .keys) (all .small) (all .keys-fit) (all .keys) sorted) (c .before .before .show-snapshots .ensures .0), omega arith)
 
 pub snapshot-states-spec : {M : Type 1} → statement M
 snapshot-states-spec =

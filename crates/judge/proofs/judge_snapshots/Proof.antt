@@ -1,9 +1,10 @@
 -- Without snapshots there is nothing to find; else one rule after the other.
+use borrow.Author.Tests.{not-true}
 use Rattle.book.proofs.Walk.{few-keys}
 use Rattle.findings.proofs.Laws.{more-lent}
 use Rattle.judge.specs.Steps.{snapshotRules}
 use Rattle.judge.proofs.Laws.{found-none}
-use Rattle.judge.proofs.Absent.{not-true, lacks-snapshots, snapshots-none}
+use Rattle.judge.proofs.Absent.{lacks-snapshots, snapshots-none}
 use borrow.Author.Needs.{needs}
 use native.Mathlib.Omega.{arith}
 use Rattle.judge.proofs.judge_snapshots.Statement.{statement}

@@ -3,7 +3,7 @@ use mathlib.Core.Bool.{_&&_}
 use lib.ListN.{take}
 use lib.Dec.{eqb}
 use Rattle.walk.specs.Keys.{keyAt}
-use Rattle.maps.proofs.Pairs.{both-true}
+use Rattle.pairs.proofs.Order.{both-true}
 use Rattle.links.specs.Links.{badSkip}
 use Rattle.links.proofs.Words.{skip-by, skip-zero, skip-count}
 use borrow.Author.Needs.{needs}

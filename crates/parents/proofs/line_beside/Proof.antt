@@ -5,9 +5,10 @@ use mathlib.Core.Bool.{true}
 use lib.ListN.{getD}
 use native.Mathlib.Omega.{arith}
 use borrow.Author.Tests.{ltb-true, eqb-true}
+use Rattle.pairs.proofs.Order.{both-true}
 use Rattle.parents.specs.Steps.{isRooted}
 use Rattle.parents.proofs.Laws.{lined-few}
-use Rattle.parents.proofs.Beside.{both-true, lined-up}
+use Rattle.parents.proofs.Beside.{lined-up}
 use borrow.Author.Needs.{needs}
 use Rattle.parents.proofs.line_beside.Statement.{statement}
 use Rattle.parents.proofs.line_beside.Tie as tie

@@ -4,9 +4,10 @@ use mathlib.Core.Option.{some}
 use native.Mathlib.Omega.{arith}
 use borrow.Author.Tests.{ltb-true, eqb-true}
 use denote.Ref.{now}
+use Rattle.pairs.proofs.Order.{both-true}
 use Rattle.book.specs.Book.{wordsFrom}
 use Rattle.parents.proofs.Links.{link, link-to}
-use Rattle.parents.proofs.Beside.{both-true, lined-down, lined-beside}
+use Rattle.parents.proofs.Beside.{lined-down, lined-beside}
 use borrow.Author.Needs.{needs}
 use Rattle.parents.proofs.line_under.Statement.{statement}
 use Rattle.parents.proofs.line_under.Tie as tie
