@@ -17,7 +17,7 @@ use Rattle.book.specs.Walk.{Opened}
 use Rattle.book.proofs.Walk.{parts, value-part}
 use Rattle.walk.specs.Keys.{keyAt, AtKey, gather}
 use Rattle.walk.proofs.Gather.{at-is}
-use Rattle.buckets.specs.Gens.{isGens, genAt, gensOfKey, covered, uncovered, bucketGensAgainstAlloc}
+use Rattle.buckets.specs.BucketGensAgainstAlloc.{isGens, genAt, gensOfKey, covered, uncovered, bucketGensAgainstAlloc}
 use Rattle.buckets.specs.Steps.{keyGens, coverPair, notCovered}
 
 -- the key at hand: what the code tests of it, and its value as the part of the book that is lent

@@ -9,7 +9,7 @@ use Rattle.findings.specs.Findings.{finding, when, only, each}
 use Rattle.pairs.specs.Pairs.{pair, insert, sort}
 use Rattle.book.specs.Maps.{lookup}
 use Rattle.book.specs.Book.{Bkey, Book, is}
-use Rattle.buckets.specs.Gens.{orZero, isGens, bucketOf, genAt, gensOfKey, covered, uncovered, bucketGensAgainstAlloc}
+use Rattle.buckets.specs.BucketGensAgainstAlloc.{orZero, isGens, bucketOf, genAt, gensOfKey, covered, uncovered, bucketGensAgainstAlloc}
 use Rattle.buckets.specs.FreeSpace.{noRun, inUse, isFree, allocRange, usedBuckets, firstOr, setFindings, runFindings, heldRuns, gaps, gapFindings, freeSpace}
 
 -- a run that ends at `end`, of `size` buckets

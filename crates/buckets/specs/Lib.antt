@@ -1,3 +1,3 @@
-pub mod Gens
+pub mod BucketGensAgainstAlloc
 pub mod FreeSpace
 pub mod Steps

@@ -16,7 +16,7 @@ use Rattle.book.specs.Maps.{lowerBound}
 use Rattle.book.specs.Book.{Bkey, Book}
 use Rattle.buckets.specs.declared.Range.{Range}
 use Rattle.buckets.specs.declared.Used.{Used}
-use Rattle.buckets.specs.Gens.{isGens, gensOfKey}
+use Rattle.buckets.specs.BucketGensAgainstAlloc.{isGens, gensOfKey}
 use Rattle.buckets.specs.FreeSpace.{isRun, runStart, noRun, usedBuckets, firstOr, allocRange, gapFindings}
 
 -- what a key gives, where it is a bucket_gens key of the device

@@ -18,7 +18,7 @@ ghost use Rattle.book.specs.Book.{
 };
 ghost use Rattle.book.specs.Walk.{Opened, Rising};
 ghost use Rattle.walk.specs.Keys.{keyAt, AtKey, gather};
-ghost use Rattle.buckets.specs.Gens.{orZero, isGens, genAt, gensOfKey, bucketGensAgainstAlloc};
+ghost use Rattle.buckets.specs.BucketGensAgainstAlloc.{orZero, isGens, genAt, gensOfKey, bucketGensAgainstAlloc};
 ghost use Rattle.buckets.specs.FreeSpace.{
   isRun,
   setFindings,

@@ -15,11 +15,11 @@ use Rattle.pairs.proofs.Bounds.{has-sort}
 use Rattle.book.specs.declared.KeyFront.{KeyFront}
 use Rattle.book.specs.Book.{Bkey, Book, is, keysFrom}
 use Rattle.book.specs.Walk.{KeysFit}
-use Rattle.states.specs.Distance.{snapLive, snapWillDelete, snapNoKeys, snapDeleted, subvolLive}
-use Rattle.deletions.specs.Snapshots.{hasSnapState, snapState, liveSnapshot, liveSubvolume, accountedId, accounted, liveChild, subvolumeIsLive, snapshotStateFindings, snapshotStates}
+use Rattle.states.specs.StateDistance.{snapLive, snapWillDelete, snapNoKeys, snapDeleted, subvolLive}
+use Rattle.deletions.specs.SnapshotStates.{hasSnapState, snapState, liveSnapshot, liveSubvolume, accountedId, accounted, liveChild, subvolumeIsLive, snapshotStateFindings, snapshotStates}
 use Rattle.walk.specs.Keys.{keyAt, AtKey, gather, anyKey}
-use Rattle.subvolumes.specs.Subvolumes.{isLiveSnapshot}
-use Rattle.deletions.specs.Sets.{isLiveSubvolume, isAccounted, setPair, willDelete, deleting, setFindings}
+use Rattle.subvolumes.specs.SubvolumeStates.{isLiveSnapshot}
+use Rattle.deletions.specs.Steps.{isLiveSubvolume, isAccounted, setPair, willDelete, deleting, setFindings}
 use Rattle.walk.proofs.Sets.{aside, has-nil, has-same, has-other, other-btree, any-by}
 use Rattle.walk.proofs.Gather.{at-long, long-enough}
 use Rattle.findings.proofs.Walk.{each-same}

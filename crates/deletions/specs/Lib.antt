@@ -1,2 +1,2 @@
-pub mod Sets
-pub mod Snapshots
+pub mod SnapshotStates
+pub mod Steps

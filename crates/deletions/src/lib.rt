@@ -11,9 +11,9 @@ ghost use Rattle.pairs.specs.Pairs.{pair, pairsOf, Sorted, has};
 ghost use Rattle.book.specs.Book.{bookOf};
 ghost use Rattle.book.specs.Walk.{Opened};
 ghost use Rattle.walk.specs.Keys.{keyAt, AtKey, gather};
-ghost use Rattle.states.specs.Distance.{snapNoKeys, snapDeleted};
-ghost use Rattle.deletions.specs.Snapshots.{hasSnapState, snapshotStates};
-ghost use Rattle.deletions.specs.Sets.{
+ghost use Rattle.states.specs.StateDistance.{snapNoKeys, snapDeleted};
+ghost use Rattle.deletions.specs.SnapshotStates.{hasSnapState, snapshotStates};
+ghost use Rattle.deletions.specs.Steps.{
   isLiveSubvolume,
   isAccounted,
   setPair,

@@ -10,7 +10,7 @@ use Rattle.findings.specs.Findings.{put}
 use Rattle.book.specs.Book.{Book, parentsOf}
 use Rattle.book.specs.Refusals.{Outcome}
 use Rattle.parents.specs.Roots.{rootOf}
-use Rattle.subvolumes.specs.Subvolumes.{isUnavailable}
+use Rattle.subvolumes.specs.SubvolumeStates.{isUnavailable}
 use Rattle.rules.specs.Rules.{findingsOf}
 use Rattle.dockwrench.specs.declared.Checked.{Checked}
 use Rattle.dockwrench.specs.declared.Checked.the-variants as checked

@@ -8,7 +8,7 @@ ghost use Rattle.book.specs.Book.{bookOf, parentsOf};
 ghost use Rattle.book.specs.Refusals.{parse};
 ghost use Rattle.book.specs.Walk.{Opened};
 ghost use Rattle.parents.specs.Roots.{rootOf};
-ghost use Rattle.subvolumes.specs.Subvolumes.{isUnavailable};
+ghost use Rattle.subvolumes.specs.SubvolumeStates.{isUnavailable};
 ghost use Rattle.dockwrench.specs.Answers.{
   countIn,
   checkBook,

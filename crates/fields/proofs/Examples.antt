@@ -6,7 +6,7 @@ use lib.ListN.{replicate}
 use Rattle.bits.specs.Bits.{leAt}
 use Rattle.findings.specs.Findings.{finding, when, only, bytesOf}
 use Rattle.book.specs.Book.{Bkey, is}
-use Rattle.fields.specs.Fields.{hasRow, sizeZero, snapshotZero, minimumValue, accountingPositionBytes, accountingKind, replicasEnd, accountingFields, someNonzero, someNotRising, replicasEntryRefused, countersBad, checkAccountingKey, backpointersStart, allocV4Bytes, checkAllocV4Value, accountingJunk, foreignType, checkPosition, checkKeyFields}
+use Rattle.fields.specs.CheckKeyFields.{hasRow, sizeZero, snapshotZero, minimumValue, accountingPositionBytes, accountingKind, replicasEnd, accountingFields, someNonzero, someNotRising, replicasEntryRefused, countersBad, checkAccountingKey, backpointersStart, allocV4Bytes, checkAllocV4Value, accountingJunk, foreignType, checkPosition, checkKeyFields}
 
 zeros : ℕ → List ℕ
 zeros n = replicate n 0

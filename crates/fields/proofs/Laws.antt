@@ -13,8 +13,8 @@ use Rattle.bits.specs.Bits.{leAt}
 use Rattle.findings.specs.Findings.{finding, when, only}
 use Rattle.book.specs.Book.{Bkey, bkey, is}
 use Rattle.book.specs.declared.KeyHead.{KeyHead}
-use Rattle.fields.specs.Device.{elsewhere, checkKeyDevice}
-use Rattle.fields.specs.Fields.{hasRow, sizeZero, accountingPositionBytes, accountingKind, replicasEntryRefused, countersBad, someNonzero, someNotRising, checkAccountingKey, checkInodeV3Word, checkSnapshotPad, checkAllocV4Value, checkPosition, checkKeyFields}
+use Rattle.fields.specs.CheckKeyDevice.{elsewhere, checkKeyDevice}
+use Rattle.fields.specs.CheckKeyFields.{hasRow, sizeZero, accountingPositionBytes, accountingKind, replicasEntryRefused, countersBad, someNonzero, someNotRising, checkAccountingKey, checkInodeV3Word, checkSnapshotPad, checkAllocV4Value, checkPosition, checkKeyFields}
 use Rattle.fields.specs.Steps.{pairOf, sizeBad, snapshotBad, checkHead, checkValue, junkAtEnd, kindFound}
 
 -- `check_key_device` does not go by the value

@@ -1,3 +1,3 @@
-pub mod Device
-pub mod Fields
+pub mod CheckKeyDevice
+pub mod CheckKeyFields
 pub mod Steps

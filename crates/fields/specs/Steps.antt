@@ -7,7 +7,7 @@ use lib.ListN.{length, drop}
 use lib.Dec.{eqb, ltb}
 use Rattle.findings.specs.Findings.{Finding, finding, when, only}
 use Rattle.book.specs.Book.{Bkey, is}
-use Rattle.fields.specs.Fields.{hasRow, sizeZero, snapshotZero, minimumValue, accountingFields, someNonzero, checkAccountingKey, checkInodeV3Word, checkSnapshotPad, checkAllocV4Value, checkPosition}
+use Rattle.fields.specs.CheckKeyFields.{hasRow, sizeZero, snapshotZero, minimumValue, accountingFields, someNonzero, checkAccountingKey, checkInodeV3Word, checkSnapshotPad, checkAllocV4Value, checkPosition}
 
 -- a btree and a type as one number
 abbrev pub pairOf : ℕ → ℕ → ℕ

@@ -7,8 +7,8 @@ ghost use lib.ListN.{length};
 ghost use Rattle.bits.specs.Bits.{leAt};
 ghost use Rattle.findings.specs.Findings.{Found, Added};
 ghost use Rattle.book.specs.Book.{bkey};
-ghost use Rattle.fields.specs.Device.{elsewhere, checkKeyDevice};
-ghost use Rattle.fields.specs.Fields.{
+ghost use Rattle.fields.specs.CheckKeyDevice.{elsewhere, checkKeyDevice};
+ghost use Rattle.fields.specs.CheckKeyFields.{
   hasRow,
   minimumValue,
   accountingPositionBytes,

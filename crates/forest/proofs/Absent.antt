@@ -12,7 +12,7 @@ use borrow.Author.Tests.{eqb-true, eqb-false, eq-eqb, not-false}
 use Rattle.forest.specs.Lists.{_∈_}
 use Rattle.findings.specs.Findings.{Finding, finding, when, each, keep}
 use Rattle.pairs.specs.Pairs.{has}
-use Rattle.links.specs.Links.{isThe, namesRoot, wrongDepth}
+use Rattle.links.specs.SnapshotLinks.{isThe, namesRoot, wrongDepth}
 use Rattle.forest.specs.Forest.{forestKinds, Absent}
 use Rattle.forest.proofs.Lists.{each-mem, mem-each, keep-none, none-kept}
 

@@ -17,7 +17,7 @@ use Rattle.snapshots.specs.Words.{parentWord, treeWord, masterWord, rootWord, i
 use Rattle.forest.specs.Forest.{keysOf, snapshots, records, WellFormed, ForestBook}
 use Rattle.book.specs.Maps.{lookup, collect}
 use Rattle.maps.specs.Maps.{mapOf}
-use Rattle.links.specs.Links.{treeMap, treeOfMap}
+use Rattle.links.specs.SnapshotLinks.{treeMap, treeOfMap}
 use Rattle.forest.proofs.Lists.{map-mem, mem-map, map-same, keep-same, mem-keep, distinct-same}
 use Rattle.forest.proofs.Maps.{eq-or-not, lookup-here, lookup-past, lookup-mem, collect-lookup, collect-mem, lastOf-distinct, ids}
 

@@ -14,7 +14,7 @@ use Rattle.book.specs.Maps.{lookup}
 use Rattle.book.specs.Book.{Bkey, Book, parentsOf}
 use Rattle.parents.specs.Roots.{rootOf, above}
 use Rattle.snapshots.specs.Words.{parentWord, childWords, subvolumeWord, treeWord, depthWord, skipWords, rootWord, holds}
-use Rattle.links.specs.Links.{treeMap, treeOfMap, isThe, isOther, masterFindings, treeFindings, namesRoot, wrongDepth, badChild, badSkip, rootFindings, backrefFindings, childFindings, skipFindings, linkFindings, snapshotLinks}
+use Rattle.links.specs.SnapshotLinks.{treeMap, treeOfMap, isThe, isOther, masterFindings, treeFindings, namesRoot, wrongDepth, badChild, badSkip, rootFindings, backrefFindings, childFindings, skipFindings, linkFindings, snapshotLinks}
 use Rattle.forest.specs.Lists.{_∈_}
 use Rattle.forest.specs.Forest.{snapshots, ForestBook, Links, InChain, RootedRight, NamedBack, NamesChild, NamesChain, Sound, forestKinds, Absent}
 use Rattle.forest.proofs.Reading.{recordWords, id-same, all-snapshots, parents-read, trees-of-read, trees-read, trees-mem}

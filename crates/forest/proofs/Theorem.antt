@@ -9,7 +9,7 @@ use Rattle.book.specs.Book.{Bkey, Book}
 use Rattle.findings.specs.Findings.{Finding}
 use Rattle.snapshots.specs.Words.{treeWord, rootWord}
 use Rattle.forest.specs.Forest.{snapshots, ForestBook, Links, Ancestor, InChain, ChainsMeet, RecordNames, Sound, Absent, Demand3}
-use Rattle.links.specs.Links.{snapshotLinks}
+use Rattle.links.specs.SnapshotLinks.{snapshotLinks}
 use Rattle.forest.proofs.Reading.{snapshot-same, record-same}
 use Rattle.forest.proofs.Chains.{links-mem, rest, root-one}
 use Rattle.forest.proofs.Rules.{links-sound}

@@ -15,10 +15,11 @@ use Rattle.book.specs.Book.{keyHead, keyEnd, bkey, keyOf, keysFrom, tableFrom, 
 use Rattle.book.specs.declared.KeyFront.{KeyFront}
 use Rattle.book.specs.Walk.{Opened, KeysFit, frontOf}
 use Rattle.book.proofs.Walk.{parts, step, value-part}
-use Rattle.subvolumes.specs.Subvolumes.{subvolumeStates, snapshotClaims}
-use Rattle.deletions.specs.Snapshots.{snapshotStates}
-use Rattle.snapshots.specs.Flags.{snapshotSubvolFlags}
-use Rattle.snapshots.specs.Children.{subvolumeChildren}
+use Rattle.subvolumes.specs.SubvolumeStates.{subvolumeStates}
+use Rattle.subvolumes.specs.SnapshotClaims.{snapshotClaims}
+use Rattle.deletions.specs.SnapshotStates.{snapshotStates}
+use Rattle.snapshots.specs.SnapshotSubvolFlags.{snapshotSubvolFlags}
+use Rattle.snapshots.specs.SubvolumeChildren.{subvolumeChildren}
 use Rattle.rules.specs.Rules.{keyFindings, findingsOf}
 use Rattle.walk.proofs.Keys.{keys-none}
 use Rattle.judge.specs.declared.Present.{Present}

@@ -14,11 +14,11 @@ use Rattle.book.specs.Book.{Bkey, is, keyHead, bookOf}
 use Rattle.walk.specs.Keys.{keyAt, AtKey}
 use Rattle.walk.proofs.Keys.{head-word}
 use Rattle.pairs.proofs.Order.{both-true}
-use Rattle.fields.specs.Device.{elsewhere, checkKeyDevice}
-use Rattle.fields.specs.Fields.{minimumValue, foreignType, checkPosition, checkKeyFields}
+use Rattle.fields.specs.CheckKeyDevice.{elsewhere, checkKeyDevice}
+use Rattle.fields.specs.CheckKeyFields.{minimumValue, foreignType, checkPosition, checkKeyFields}
 use Rattle.fields.specs.Steps.{sizeBad}
 use Rattle.fields.proofs.Laws.{size-may}
-use Rattle.states.specs.Words.{checkStateWords}
+use Rattle.states.specs.CheckStateWords.{checkStateWords}
 use Rattle.rules.specs.Rules.{keyFindings}
 use Rattle.judge.specs.Steps.{byDevice, quiet, keyRules}
 

@@ -5,15 +5,16 @@ use mathlib.Core.List.{List, _++_}
 use lib.Dec.{eqb}
 use Rattle.findings.specs.Findings.{Finding}
 use Rattle.book.specs.Book.{Bkey, Book}
-use Rattle.fields.specs.Device.{checkKeyDevice}
-use Rattle.fields.specs.Fields.{checkKeyFields}
-use Rattle.states.specs.Words.{checkStateWords}
-use Rattle.subvolumes.specs.Subvolumes.{subvolumeStates, snapshotClaims}
-use Rattle.deletions.specs.Snapshots.{snapshotStates}
-use Rattle.snapshots.specs.Flags.{snapshotSubvolFlags}
-use Rattle.snapshots.specs.Children.{subvolumeChildren}
-use Rattle.links.specs.Links.{snapshotLinks}
-use Rattle.buckets.specs.Gens.{bucketGensAgainstAlloc}
+use Rattle.fields.specs.CheckKeyDevice.{checkKeyDevice}
+use Rattle.fields.specs.CheckKeyFields.{checkKeyFields}
+use Rattle.states.specs.CheckStateWords.{checkStateWords}
+use Rattle.subvolumes.specs.SubvolumeStates.{subvolumeStates}
+use Rattle.subvolumes.specs.SnapshotClaims.{snapshotClaims}
+use Rattle.deletions.specs.SnapshotStates.{snapshotStates}
+use Rattle.snapshots.specs.SnapshotSubvolFlags.{snapshotSubvolFlags}
+use Rattle.snapshots.specs.SubvolumeChildren.{subvolumeChildren}
+use Rattle.links.specs.SnapshotLinks.{snapshotLinks}
+use Rattle.buckets.specs.BucketGensAgainstAlloc.{bucketGensAgainstAlloc}
 use Rattle.buckets.specs.FreeSpace.{freeSpace}
 
 -- the three rules on a key, by the device and the version

@@ -6,9 +6,9 @@ ghost use Rattle.findings.specs.Findings.{Found, Added, each};
 ghost use Rattle.book.specs.Book.{bkey, bookOf};
 ghost use Rattle.book.specs.Walk.{Opened};
 ghost use Rattle.walk.specs.Keys.{keyAt, AtKey};
-ghost use Rattle.snapshots.specs.Children.{subvolumeChildren};
-ghost use Rattle.links.specs.Links.{snapshotLinks};
-ghost use Rattle.buckets.specs.Gens.{bucketGensAgainstAlloc};
+ghost use Rattle.snapshots.specs.SubvolumeChildren.{subvolumeChildren};
+ghost use Rattle.links.specs.SnapshotLinks.{snapshotLinks};
+ghost use Rattle.buckets.specs.BucketGensAgainstAlloc.{bucketGensAgainstAlloc};
 ghost use Rattle.rules.specs.Rules.{keyFindings, findingsOf};
 ghost use Rattle.judge.specs.Present.{withBtree, presentIn};
 ghost use Rattle.judge.specs.Steps.{

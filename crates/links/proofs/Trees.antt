@@ -29,7 +29,7 @@ use Rattle.maps.specs.Sorted.{lastAt}
 use Rattle.maps.proofs.Pairs.{which-part}
 use Rattle.maps.proofs.Places.{Gives, Held, wordAt, find-law, find-held, each-map, last-held, held-at}
 use Rattle.snapshots.specs.Words.{holds, treeWord, masterWord, rootWord, idOf}
-use Rattle.links.specs.Links.{treeMap, treeOfMap, treeFindings}
+use Rattle.links.specs.SnapshotLinks.{treeMap, treeOfMap, treeFindings}
 use Rattle.links.specs.Steps.{rootNamed, linkPair, treeAt, Ready}
 
 -- ---- the pairs of a key

@@ -24,7 +24,7 @@ use Rattle.parents.specs.Roots.{above}
 use Rattle.parents.specs.declared.Line.{Line}
 use Rattle.parents.proofs.Laws.{among}
 use Rattle.snapshots.specs.Words.{holds, subvolumeWord, treeWord, depthWord, skipWords, idOf}
-use Rattle.links.specs.Links.{treeMap, treeOfMap, isThe, isOther, masterFindings, treeFindings, namesRoot, wrongDepth, badChild, badSkip, rootFindings, backrefFindings, childFindings, skipFindings, linkFindings, snapshotLinks}
+use Rattle.links.specs.SnapshotLinks.{treeMap, treeOfMap, isThe, isOther, masterFindings, treeFindings, namesRoot, wrongDepth, badChild, badSkip, rootFindings, backrefFindings, childFindings, skipFindings, linkFindings, snapshotLinks}
 use Rattle.links.specs.Steps.{wordIn, rootIn, rootNamed, sameRoot}
 
 -- the enums say what they were made from

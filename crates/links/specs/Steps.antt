@@ -17,7 +17,7 @@ use Rattle.parents.specs.declared.Root.the-variants.{At, NoRoot}
 use Rattle.maps.specs.Places.{placePair}
 use Rattle.maps.specs.Sorted.{AllPairs}
 use Rattle.snapshots.specs.Words.{holds, masterWord, rootWord, idOf}
-use Rattle.links.specs.Links.{isThe}
+use Rattle.links.specs.SnapshotLinks.{isThe}
 
 -- a word or none, and a root with its links or none, by the enums
 unfoldable pub wordIn : MaybeU32 → Option ℕ

@@ -15,7 +15,7 @@ ghost use Rattle.maps.specs.Places.{placePair};
 ghost use Rattle.maps.specs.Sorted.{lastAt};
 ghost use Rattle.parents.specs.Answers.{Lined};
 ghost use Rattle.snapshots.specs.Words.{holds, subvolumeWord, treeWord, skipWords, idOf};
-ghost use Rattle.links.specs.Links.{
+ghost use Rattle.links.specs.SnapshotLinks.{
   treeMap,
   treeOfMap,
   isThe,

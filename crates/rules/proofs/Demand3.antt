@@ -10,12 +10,13 @@ use borrow.Author.Tests.{eqb-true, ltb-true}
 use Rattle.findings.specs.Findings.{Finding, each}
 use Rattle.pairs.specs.Pairs.{has}
 use Rattle.book.specs.Book.{Book}
-use Rattle.subvolumes.specs.Subvolumes.{subvolumeStates, snapshotClaims}
-use Rattle.deletions.specs.Snapshots.{snapshotStates}
-use Rattle.snapshots.specs.Flags.{snapshotSubvolFlags}
-use Rattle.snapshots.specs.Children.{subvolumeChildren}
-use Rattle.links.specs.Links.{snapshotLinks}
-use Rattle.buckets.specs.Gens.{bucketGensAgainstAlloc}
+use Rattle.subvolumes.specs.SubvolumeStates.{subvolumeStates}
+use Rattle.subvolumes.specs.SnapshotClaims.{snapshotClaims}
+use Rattle.deletions.specs.SnapshotStates.{snapshotStates}
+use Rattle.snapshots.specs.SnapshotSubvolFlags.{snapshotSubvolFlags}
+use Rattle.snapshots.specs.SubvolumeChildren.{subvolumeChildren}
+use Rattle.links.specs.SnapshotLinks.{snapshotLinks}
+use Rattle.buckets.specs.BucketGensAgainstAlloc.{bucketGensAgainstAlloc}
 use Rattle.buckets.specs.FreeSpace.{freeSpace}
 use Rattle.forest.specs.Lists.{_∈_}
 use Rattle.forest.specs.Forest.{ForestBook, forestKinds, Absent, Demand3}

@@ -10,19 +10,20 @@ use Rattle.findings.specs.Findings.{Finding, finding, when, only, each, keep}
 use Rattle.pairs.specs.Pairs.{has, sort}
 use Rattle.book.specs.Maps.{lookup, insert, insertAll, collect}
 use Rattle.book.specs.Book.{Bkey, Book, is, parentsOf}
-use Rattle.fields.specs.Device.{elsewhere, checkKeyDevice}
-use Rattle.fields.specs.Fields.{hasRow, sizeZero, snapshotZero, minimumValue, checkSnapshotPad, badId, foreignType, checkPosition, checkKeyFields}
-use Rattle.states.specs.Distance.{bitsApart, stateDistance, snapStates}
-use Rattle.states.specs.Words.{stateRequired, snapStateWord, snapshotState, checkStateWords}
-use Rattle.subvolumes.specs.Subvolumes.{hasSubvolState, unavailable, subvolumeStates, claims, claimed, counts, claimFindings, snapshotClaims}
-use Rattle.deletions.specs.Snapshots.{hasSnapState, snapshotStates}
+use Rattle.fields.specs.CheckKeyDevice.{elsewhere, checkKeyDevice}
+use Rattle.fields.specs.CheckKeyFields.{hasRow, sizeZero, snapshotZero, minimumValue, checkSnapshotPad, badId, foreignType, checkPosition, checkKeyFields}
+use Rattle.states.specs.StateDistance.{bitsApart, stateDistance, snapStates}
+use Rattle.states.specs.CheckStateWords.{stateRequired, snapStateWord, snapshotState, checkStateWords}
+use Rattle.subvolumes.specs.SubvolumeStates.{hasSubvolState, unavailable, subvolumeStates}
+use Rattle.subvolumes.specs.SnapshotClaims.{claims, claimed, counts, claimFindings, snapshotClaims}
+use Rattle.deletions.specs.SnapshotStates.{hasSnapState, snapshotStates}
 use Rattle.maps.specs.Maps.{mapOf}
 use Rattle.parents.specs.Roots.{oneMore, rootVia, rootWithin, rootOf, followedVia, followed, above}
 use Rattle.snapshots.specs.Words.{holds, parentWord, idOf}
-use Rattle.snapshots.specs.Flags.{flagged, flagIsWrong, flagFindings, snapshotSubvolFlags}
-use Rattle.snapshots.specs.Children.{hasFsParent, fsParents, subvolumeChildren}
-use Rattle.links.specs.Links.{treeMap, treeOfMap, isThe, isOther, masterFindings, treeFindings, namesRoot, wrongDepth, badChild, badSkip, rootFindings, backrefFindings, childFindings, skipFindings, linkFindings, snapshotLinks}
-use Rattle.buckets.specs.Gens.{isGens, bucketGensAgainstAlloc}
+use Rattle.snapshots.specs.SnapshotSubvolFlags.{flagged, flagIsWrong, flagFindings, snapshotSubvolFlags}
+use Rattle.snapshots.specs.SubvolumeChildren.{hasFsParent, fsParents, subvolumeChildren}
+use Rattle.links.specs.SnapshotLinks.{treeMap, treeOfMap, isThe, isOther, masterFindings, treeFindings, namesRoot, wrongDepth, badChild, badSkip, rootFindings, backrefFindings, childFindings, skipFindings, linkFindings, snapshotLinks}
+use Rattle.buckets.specs.BucketGensAgainstAlloc.{isGens, bucketGensAgainstAlloc}
 use Rattle.buckets.specs.FreeSpace.{heldRuns, gaps, freeSpace}
 use Rattle.forest.specs.Lists.{_∈_}
 use Rattle.forest.specs.Forest.{keysOf, snapshots, WellFormed, ForestBook, Sound, Absent}

@@ -10,9 +10,9 @@ use Rattle.findings.specs.Findings.{when, only, each, bytesOf}
 use Rattle.pairs.specs.Pairs.{pair, insert, sort}
 use Rattle.book.specs.Maps.{lookup}
 use Rattle.book.specs.Book.{is}
-use Rattle.fields.specs.Fields.{hasRow, sizeZero, snapshotZero, minimumValue, accountingPositionBytes, accountingKind, replicasEnd, accountingFields, someNonzero, someNotRising, replicasEntryRefused, countersBad, checkAccountingKey, backpointersStart, allocV4Bytes, accountingJunk, foreignType, checkPosition, checkKeyFields}
-use Rattle.states.specs.Distance.{bitsApart, stateDistance, subvolStates}
-use Rattle.states.specs.Words.{stateRequired, subvolStateUnset, subvolumeWord, subvolumeState, checkStateWords}
+use Rattle.fields.specs.CheckKeyFields.{hasRow, sizeZero, snapshotZero, minimumValue, accountingPositionBytes, accountingKind, replicasEnd, accountingFields, someNonzero, someNotRising, replicasEntryRefused, countersBad, checkAccountingKey, backpointersStart, allocV4Bytes, accountingJunk, foreignType, checkPosition, checkKeyFields}
+use Rattle.states.specs.StateDistance.{bitsApart, stateDistance, subvolStates}
+use Rattle.states.specs.CheckStateWords.{stateRequired, subvolStateUnset, subvolumeWord, subvolumeState, checkStateWords}
 use Rattle.parents.specs.Roots.{oneMore, rootVia, rootWithin, rootOf}
 use Rattle.parents.proofs.Links.{link, link-to, root-more, root-full, root-here}
 use Rattle.buckets.specs.FreeSpace.{noRun, isFree, allocRange, usedBuckets, firstOr, setFindings, runFindings, heldRuns, gaps, gapFindings, freeSpace}

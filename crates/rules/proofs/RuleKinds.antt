@@ -9,15 +9,16 @@ use lib.Dec.{ltb}
 use Rattle.findings.specs.Findings.{Finding, finding, when, only, each}
 use Rattle.pairs.specs.Pairs.{has}
 use Rattle.book.specs.Book.{Bkey, Book}
-use Rattle.fields.specs.Device.{checkKeyDevice}
-use Rattle.fields.specs.Fields.{checkKeyFields, checkAccountingKey, checkInodeV3Word, checkSnapshotPad, checkAllocV4Value, checkPosition}
-use Rattle.states.specs.Words.{checkStateWords, snapshotState, subvolumeState, subvolumeWord}
-use Rattle.subvolumes.specs.Subvolumes.{subvolumeStates, subvolumeFindings, snapshotClaims, claimFindings}
-use Rattle.deletions.specs.Snapshots.{snapshotStates, snapshotStateFindings}
-use Rattle.snapshots.specs.Flags.{snapshotSubvolFlags, flagFindings}
-use Rattle.snapshots.specs.Children.{subvolumeChildren, missingEntry, wrongEntry}
-use Rattle.links.specs.Links.{snapshotLinks, treeFindings, masterFindings, linkFindings, rootFindings, backrefFindings, childFindings, skipFindings}
-use Rattle.buckets.specs.Gens.{bucketGensAgainstAlloc, gensOfKey, genAt, uncovered}
+use Rattle.fields.specs.CheckKeyDevice.{checkKeyDevice}
+use Rattle.fields.specs.CheckKeyFields.{checkKeyFields, checkAccountingKey, checkInodeV3Word, checkSnapshotPad, checkAllocV4Value, checkPosition}
+use Rattle.states.specs.CheckStateWords.{checkStateWords, snapshotState, subvolumeState, subvolumeWord}
+use Rattle.subvolumes.specs.SubvolumeStates.{subvolumeStates, subvolumeFindings}
+use Rattle.subvolumes.specs.SnapshotClaims.{snapshotClaims, claimFindings}
+use Rattle.deletions.specs.SnapshotStates.{snapshotStates, snapshotStateFindings}
+use Rattle.snapshots.specs.SnapshotSubvolFlags.{snapshotSubvolFlags, flagFindings}
+use Rattle.snapshots.specs.SubvolumeChildren.{subvolumeChildren, missingEntry, wrongEntry}
+use Rattle.links.specs.SnapshotLinks.{snapshotLinks, treeFindings, masterFindings, linkFindings, rootFindings, backrefFindings, childFindings, skipFindings}
+use Rattle.buckets.specs.BucketGensAgainstAlloc.{bucketGensAgainstAlloc, gensOfKey, genAt, uncovered}
 use Rattle.buckets.specs.FreeSpace.{freeSpace, runFindings, setFindings, isFree, gapFindings}
 use Rattle.forest.specs.Lists.{_∈_}
 use Rattle.rules.specs.Rules.{keyFindings, findingsOf}

@@ -6,9 +6,9 @@ use mathlib.Core.Option.{Option, none, some}
 use lib.ListN.{replicate}
 use Rattle.findings.specs.Findings.{Finding}
 use Rattle.book.specs.Book.{Bkey, Book}
-use Rattle.fields.specs.Fields.{allocV4Bytes, checkKeyFields}
-use Rattle.states.specs.Distance.{stateDistance, subvolStates}
-use Rattle.states.specs.Words.{checkStateWords}
+use Rattle.fields.specs.CheckKeyFields.{allocV4Bytes, checkKeyFields}
+use Rattle.states.specs.StateDistance.{stateDistance, subvolStates}
+use Rattle.states.specs.CheckStateWords.{checkStateWords}
 use Rattle.parents.specs.Roots.{rootOf}
 use Rattle.buckets.specs.FreeSpace.{freeSpace}
 

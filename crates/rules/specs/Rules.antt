@@ -3,15 +3,16 @@ use Prim.Native.Nat.{ℕ}
 use mathlib.Core.List.{List, _++_}
 use Rattle.findings.specs.Findings.{Finding, each}
 use Rattle.book.specs.Book.{Bkey, Book}
-use Rattle.fields.specs.Device.{checkKeyDevice}
-use Rattle.fields.specs.Fields.{checkKeyFields}
-use Rattle.states.specs.Words.{checkStateWords}
-use Rattle.subvolumes.specs.Subvolumes.{subvolumeStates, snapshotClaims}
-use Rattle.deletions.specs.Snapshots.{snapshotStates}
-use Rattle.snapshots.specs.Flags.{snapshotSubvolFlags}
-use Rattle.snapshots.specs.Children.{subvolumeChildren}
-use Rattle.links.specs.Links.{snapshotLinks}
-use Rattle.buckets.specs.Gens.{bucketGensAgainstAlloc}
+use Rattle.fields.specs.CheckKeyDevice.{checkKeyDevice}
+use Rattle.fields.specs.CheckKeyFields.{checkKeyFields}
+use Rattle.states.specs.CheckStateWords.{checkStateWords}
+use Rattle.subvolumes.specs.SubvolumeStates.{subvolumeStates}
+use Rattle.subvolumes.specs.SnapshotClaims.{snapshotClaims}
+use Rattle.deletions.specs.SnapshotStates.{snapshotStates}
+use Rattle.snapshots.specs.SnapshotSubvolFlags.{snapshotSubvolFlags}
+use Rattle.snapshots.specs.SubvolumeChildren.{subvolumeChildren}
+use Rattle.links.specs.SnapshotLinks.{snapshotLinks}
+use Rattle.buckets.specs.BucketGensAgainstAlloc.{bucketGensAgainstAlloc}
 use Rattle.buckets.specs.FreeSpace.{freeSpace}
 
 -- "Each key in turn: `check_key_device`, `check_key_fields`, `check_state_words`": the key of this index

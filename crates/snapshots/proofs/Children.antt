@@ -25,7 +25,7 @@ use Rattle.book.specs.Maps.{lookup}
 use Rattle.book.specs.Book.{Bkey, is, keyEnd, keysFrom, bookOf}
 use Rattle.book.specs.Walk.{Opened, maybeU32}
 use Rattle.book.proofs.Walk.{parts}
-use Rattle.states.specs.Distance.{subvolDeleted}
+use Rattle.states.specs.StateDistance.{subvolDeleted}
 use Rattle.walk.specs.Keys.{keyAt, AtKey, gather, anyKey}
 use Rattle.walk.proofs.Gather.{at-length, at-long, long-enough}
 use Rattle.walk.proofs.Sets.{has-nil, other-btree}
@@ -36,7 +36,7 @@ use Rattle.maps.proofs.Pairs.{which-part}
 use Rattle.maps.proofs.Last.{number-at}
 use Rattle.maps.proofs.Places.{Gives, Held, wordAt, find-law, each-map, set-law}
 use Rattle.snapshots.specs.Words.{word, holds}
-use Rattle.snapshots.specs.Children.{isDeleted, hasFsParent, fsParents, isEntry, isEntryOf, missingEntry, wrongEntry}
+use Rattle.snapshots.specs.SubvolumeChildren.{isDeleted, hasFsParent, fsParents, isEntry, isEntryOf, missingEntry, wrongEntry}
 use Rattle.snapshots.specs.Steps.{childPair, wrongWord, anyWrong, AtChild}
 
 -- ---- the key at hand

@@ -1,4 +1,4 @@
 pub mod Words
-pub mod Flags
-pub mod Children
+pub mod SnapshotSubvolFlags
+pub mod SubvolumeChildren
 pub mod Steps

@@ -13,7 +13,7 @@ use Rattle.book.specs.Walk.{maybeU32}
 use Rattle.walk.specs.Keys.{keyAt}
 use Rattle.maps.specs.Places.{placePair, numberIn}
 use Rattle.snapshots.specs.declared.Child.{Child}
-use Rattle.snapshots.specs.Children.{hasFsParent, fsParents, isEntry}
+use Rattle.snapshots.specs.SubvolumeChildren.{hasFsParent, fsParents, isEntry}
 
 -- map 0: the places of subvolumes with a parent, by their offsets; set 1: the parents of entries, by their children, where a number of more
 -- than 32 bits, which is no subvolume's parent, stands as 2 ^ 32

@@ -11,8 +11,8 @@ ghost use Rattle.book.specs.Walk.{Opened, maybeU32};
 ghost use Rattle.walk.specs.Keys.{keyAt, AtKey, gather};
 ghost use Rattle.maps.specs.Sorted.{AllPairs, lastAt};
 ghost use Rattle.snapshots.specs.Words.{word};
-ghost use Rattle.snapshots.specs.Flags.{flagFindings, snapshotSubvolFlags};
-ghost use Rattle.snapshots.specs.Children.{
+ghost use Rattle.snapshots.specs.SnapshotSubvolFlags.{flagFindings, snapshotSubvolFlags};
+ghost use Rattle.snapshots.specs.SubvolumeChildren.{
   hasFsParent,
   fsParents,
   isEntry,

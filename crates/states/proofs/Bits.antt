@@ -11,7 +11,7 @@ use lib.Pow.{pow-pos, mod-pow-add}
 use lib.Bits.{bitXor, xor-shr, xor-mod, xor-lt}
 use lib.Count.{ones, ones-cat}
 use Rattle.findings.proofs.Walk.{drop-at, drop-past}
-use Rattle.states.specs.Distance.{bitsApart, distance, stateDistance}
+use Rattle.states.specs.StateDistance.{bitsApart, distance, stateDistance}
 
 -- two digits
 digits-apart : (a b : ℕ) → a < 2 → b < 2 → ones (bitXor a b) ≡ cond (eqb a b) 0 1

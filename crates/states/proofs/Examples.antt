@@ -6,8 +6,8 @@ use lib.ListN.{replicate}
 use Rattle.bits.specs.Bits.{leAt}
 use Rattle.findings.specs.Findings.{Finding, finding, when, only}
 use Rattle.book.specs.Book.{Bkey, is}
-use Rattle.states.specs.Distance.{bitsApart, stateDistance, subvolStates}
-use Rattle.states.specs.Words.{stateRequired, subvolStateUnset, subvolumeWord, subvolumeState, checkStateWords}
+use Rattle.states.specs.StateDistance.{bitsApart, stateDistance, subvolStates}
+use Rattle.states.specs.CheckStateWords.{stateRequired, subvolStateUnset, subvolumeWord, subvolumeState, checkStateWords}
 
 -- a subvolume whose state is 0x4ad54400 and this low byte
 subvolume : ℕ → Bkey

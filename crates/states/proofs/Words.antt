@@ -10,10 +10,10 @@ use borrow.Author.Tests.{le-ltb, lt-ltb, leb-true, leb-false, eqb-true, ne-eqb}
 use Rattle.bits.specs.Bits.{leAt}
 use Rattle.findings.specs.Findings.{finding, when, only}
 use Rattle.book.specs.Book.{Bkey, is}
-use Rattle.states.specs.Distance.{stateDistance, snapStates, subvolStates}
+use Rattle.states.specs.StateDistance.{stateDistance, snapStates, subvolStates}
 use Rattle.states.specs.Steps.{wordOrZero}
 use Rattle.walk.proofs.Sets.{both-true}
-use Rattle.states.specs.Words.{stateRequired, snapStateWord, snapshotState, subvolStateUnset, subvolumeWord, subvolumeState, checkStateWords}
+use Rattle.states.specs.CheckStateWords.{stateRequired, snapStateWord, snapshotState, subvolStateUnset, subvolumeWord, subvolumeState, checkStateWords}
 
 -- a snapshot's findings, from its word, the distance and the version's test
 pub snapshot-findings : (version i : ℕ) (value : List ℕ) {w d : ℕ} {required : Bool} → w ≡ wordOrZero value 56 → d ≡ stateDistance w snapStates → required ≡ stateRequired version

@@ -1,3 +1,3 @@
-pub mod Distance
+pub mod StateDistance
+pub mod CheckStateWords
 pub mod Steps
-pub mod Words

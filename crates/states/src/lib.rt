@@ -4,9 +4,9 @@ ghost use mathlib.Core.Bool.{_&&_};
 ghost use Prim.Native.Nat.{_+_, _^_, _<_, _≤_};
 ghost use Rattle.findings.specs.Findings.{finding, when, Found, Added};
 ghost use Rattle.book.specs.Book.{bkey};
-ghost use Rattle.states.specs.Distance.{distance, stateDistance};
+ghost use Rattle.states.specs.StateDistance.{distance, stateDistance};
 ghost use Rattle.states.specs.Steps.{wordOrZero};
-ghost use Rattle.states.specs.Words.{
+ghost use Rattle.states.specs.CheckStateWords.{
   stateRequired,
   snapshotState,
   subvolStateUnset,

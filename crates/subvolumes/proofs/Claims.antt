@@ -12,8 +12,9 @@ use Rattle.pairs.specs.Pairs.{pair}
 use Rattle.pairs.proofs.Order.{both-true}
 use Rattle.book.specs.declared.KeyFront.{KeyFront}
 use Rattle.book.specs.Book.{is, keyEnd, keysFrom}
-use Rattle.states.specs.Distance.{distance, subvolDeleted}
-use Rattle.subvolumes.specs.Subvolumes.{subvolState, claims, claimed}
+use Rattle.states.specs.StateDistance.{distance, subvolDeleted}
+use Rattle.subvolumes.specs.SubvolumeStates.{subvolState}
+use Rattle.subvolumes.specs.SnapshotClaims.{claims, claimed}
 use Rattle.walk.specs.Keys.{keyAt, AtKey, gather}
 use Rattle.subvolumes.specs.Steps.{claimPair}
 use Rattle.walk.proofs.Gather.{at-length, at-long, long-enough}

@@ -15,7 +15,7 @@ use Rattle.findings.proofs.Walk.{drop-at, drop-past, each-next}
 use Rattle.pairs.specs.Pairs.{pair, pairsOf, insert, sort, Sorted}
 use Rattle.pairs.proofs.Order.{tested, less-or-not, same-or-not}
 use Rattle.pairs.proofs.Words.{pair-first, first, length-pairs}
-use Rattle.subvolumes.specs.Subvolumes.{countOne, counts, claimFindings}
+use Rattle.subvolumes.specs.SnapshotClaims.{countOne, counts, claimFindings}
 use Rattle.subvolumes.specs.Steps.{firsts, RunEnd}
 
 -- ---- one more in a map of counts

@@ -20,8 +20,8 @@ use Rattle.book.specs.Walk.{KeysFit}
 use Rattle.book.proofs.Laws.{key-end}
 use Rattle.maps.proofs.Pairs.{keep-sort}
 use Rattle.maps.proofs.Last.{sorted-from}
-use Rattle.states.specs.Distance.{snapLive, subvolUnlinked, subvolDeleted}
-use Rattle.subvolumes.specs.Subvolumes.{isLiveSnapshot, hasSubvolState, subvolState, unavailable, liveSnapshotOf, treeOfSubvolume, subvolumeFindings, subvolumeStates}
+use Rattle.states.specs.StateDistance.{snapLive, subvolUnlinked, subvolDeleted}
+use Rattle.subvolumes.specs.SubvolumeStates.{isLiveSnapshot, hasSubvolState, subvolState, unavailable, liveSnapshotOf, treeOfSubvolume, subvolumeFindings, subvolumeStates}
 use Rattle.walk.specs.Keys.{keyAt, gather, anyKey}
 use Rattle.subvolumes.specs.Steps.{isTree, inGroup, groupOf, statePair, Grouped, groupFindings, judged}
 use Rattle.subvolumes.proofs.Groups.{Words, group-append, group-nil, group-pair}

@@ -13,8 +13,8 @@ use Rattle.book.specs.declared.KeyFront.{KeyFront}
 use Rattle.book.specs.Book.{Bkey, is, keyEnd, keysFrom}
 use Rattle.book.specs.Walk.{KeysFit}
 use Rattle.book.proofs.Walk.{step, no-keys}
-use Rattle.states.specs.Distance.{snapLive, subvolUnlinked, subvolDeleted}
-use Rattle.subvolumes.specs.Subvolumes.{isLiveSnapshot, hasSubvolState, subvolState, unavailable, isUnavailable}
+use Rattle.states.specs.StateDistance.{snapLive, subvolUnlinked, subvolDeleted}
+use Rattle.subvolumes.specs.SubvolumeStates.{isLiveSnapshot, hasSubvolState, subvolState, unavailable, isUnavailable}
 use Rattle.walk.specs.Keys.{keyAt, AtKey, anyKey}
 use Rattle.subvolumes.specs.Steps.{isTree, inGroup, groupOf, statePair}
 use Rattle.walk.proofs.Gather.{at-length, at-long, long-enough}

@@ -1,2 +1,3 @@
+pub mod SubvolumeStates
+pub mod SnapshotClaims
 pub mod Steps
-pub mod Subvolumes

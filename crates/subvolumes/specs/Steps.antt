@@ -10,8 +10,9 @@ use Rattle.findings.specs.Findings.{Finding, finding, when, only, each}
 use Rattle.pairs.specs.Pairs.{pair, pairsOf, Sorted}
 use Rattle.book.specs.Book.{Bkey, is}
 use Rattle.walk.specs.Keys.{keyAt}
-use Rattle.states.specs.Distance.{subvolDeleted}
-use Rattle.subvolumes.specs.Subvolumes.{isLiveSnapshot, unavailable, subvolState, claims}
+use Rattle.states.specs.StateDistance.{subvolDeleted}
+use Rattle.subvolumes.specs.SubvolumeStates.{isLiveSnapshot, unavailable, subvolState}
+use Rattle.subvolumes.specs.SnapshotClaims.{claims}
 
 -- the pair that a claimant gives: the snapshot that it claims, and 0
 unfoldable pub claimPair : ℕ → Bkey → List ℕ

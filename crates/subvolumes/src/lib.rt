@@ -10,15 +10,8 @@ ghost use Rattle.pairs.specs.Pairs.{pairsOf, Sorted};
 ghost use Rattle.book.specs.Book.{bookOf};
 ghost use Rattle.book.specs.Walk.{Opened};
 ghost use Rattle.walk.specs.Keys.{keyAt, AtKey, gather, anyKey};
-ghost use Rattle.subvolumes.specs.Subvolumes.{
-  isLiveSnapshot,
-  unavailable,
-  subvolumeStates,
-  isUnavailable,
-  claims,
-  claimFindings,
-  snapshotClaims,
-};
+ghost use Rattle.subvolumes.specs.SubvolumeStates.{isLiveSnapshot, unavailable, subvolumeStates, isUnavailable};
+ghost use Rattle.subvolumes.specs.SnapshotClaims.{claims, claimFindings, snapshotClaims};
 ghost use Rattle.subvolumes.specs.Steps.{
   claimPair,
   firsts,

@@ -1,7 +1,7 @@
 -- `buckets::gen_at` meets its contract: the offset times 256 keeps its low 64 bits.
 use Prim.Native.Nat.{_*_, _%_, _^_}
 use mathlib.Core.Path.{_≡_}
-use Rattle.buckets.specs.Gens.{genAt, bucketOf}
+use Rattle.buckets.specs.BucketGensAgainstAlloc.{genAt, bucketOf}
 use borrow.Author.Needs.{needs}
 use native.Mathlib.Omega.{arith}
 use Rattle.buckets.proofs.gen_at.Statement.{statement}

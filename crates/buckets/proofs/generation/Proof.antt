@@ -1,7 +1,7 @@
 -- `buckets::generation` meets its contract, by what `find_gen` answers.
 use mathlib.Core.Path.{sym, _∙_}
 use Rattle.book.proofs.Maps.{byte-is, byte-absent}
-use Rattle.buckets.specs.Gens.{orZero}
+use Rattle.buckets.specs.BucketGensAgainstAlloc.{orZero}
 use borrow.Author.Needs.{needs}
 use Rattle.buckets.proofs.generation.Statement.{statement}
 use Rattle.buckets.proofs.generation.Tie as tie

@@ -4,7 +4,7 @@ use mathlib.Core.Path.{_≡_}
 use denote.Ref.{now}
 use lib.ListN.{length, take, drop, getD, length-take}
 use lib.Seq.{getD-take}
-use Rattle.buckets.specs.Gens.{genAt}
+use Rattle.buckets.specs.BucketGensAgainstAlloc.{genAt}
 use Rattle.book.specs.Book.{gensFrom}
 use Rattle.findings.proofs.Laws.{added-as}
 use Rattle.findings.proofs.Walk.{Walk, first, turn-at, last, each-none, drop-past, begun-length}

@@ -3,7 +3,7 @@ use lib.ListN.{length}
 use mathlib.Core.Path.{_≡_, refl}
 use Rattle.book.proofs.Walk.{parts, step}
 use Rattle.walk.proofs.Gather.{Gathered, at-key, at-end, none-yet, one-more, all-put}
-use Rattle.deletions.specs.Sets.{setPair}
+use Rattle.deletions.specs.Steps.{setPair}
 use borrow.Author.Needs.{needs}
 use native.Mathlib.Omega.{arith}
 use Rattle.deletions.proofs.put_sets.Statement.{statement}

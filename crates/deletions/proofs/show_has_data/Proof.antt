@@ -4,7 +4,7 @@ use mathlib.Core.Bool.{Bool, _&&_, _||_}
 use lib.Dec.{eqb}
 use Rattle.findings.specs.Findings.{finding, when}
 use Rattle.findings.proofs.Laws.{added-as}
-use Rattle.states.specs.Distance.{snapNoKeys, snapDeleted}
+use Rattle.states.specs.StateDistance.{snapNoKeys, snapDeleted}
 use borrow.Author.Needs.{needs}
 use native.Mathlib.Omega.{arith}
 use Rattle.deletions.proofs.show_has_data.Statement.{statement}

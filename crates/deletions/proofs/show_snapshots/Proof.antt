@@ -7,7 +7,7 @@ use Rattle.book.specs.Book.{keysFrom}
 use Rattle.book.specs.Walk.{KeysFit}
 use Rattle.book.proofs.Walk.{parts, step, no-keys}
 use Rattle.walk.proofs.Gather.{at-key, at-end, key-next}
-use Rattle.deletions.specs.Sets.{setFindings}
+use Rattle.deletions.specs.Steps.{setFindings}
 use borrow.Author.Needs.{needs}
 use native.Mathlib.Omega.{arith}
 use Rattle.deletions.proofs.show_snapshots.Statement.{statement}

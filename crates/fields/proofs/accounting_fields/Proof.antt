@@ -1,6 +1,6 @@
 -- `fields::accounting_fields` meets its contract, by the kind.
 use borrow.Author.Tests.{eq-eqb, ne-eqb}
-use Rattle.fields.specs.Fields.{accountingFields}
+use Rattle.fields.specs.CheckKeyFields.{accountingFields}
 use borrow.Author.Needs.{needs}
 use native.Mathlib.Omega.{arith}
 use Rattle.fields.proofs.accounting_fields.Statement.{statement}

@@ -1,6 +1,6 @@
 -- `fields::accounting_junk` meets its contract by computing.
 use mathlib.Core.Path.{refl}
-use Rattle.fields.specs.Fields.{accountingJunk, accountingKind}
+use Rattle.fields.specs.CheckKeyFields.{accountingJunk, accountingKind}
 use Rattle.fields.proofs.accounting_junk.Statement.{statement}
 use Rattle.fields.proofs.accounting_junk.Tie as tie
 

@@ -1,7 +1,7 @@
 -- `fields::accounting_position_bytes` meets its contract by computing.
 use mathlib.Core.Path.{refl}
 use Rattle.findings.specs.Findings.{bytesOf}
-use Rattle.fields.specs.Fields.{accountingPositionBytes}
+use Rattle.fields.specs.CheckKeyFields.{accountingPositionBytes}
 use borrow.Author.Needs.{needs}
 use Rattle.fields.proofs.accounting_position_bytes.Statement.{statement}
 use Rattle.fields.proofs.accounting_position_bytes.Tie as tie

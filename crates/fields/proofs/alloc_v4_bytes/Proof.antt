@@ -1,6 +1,6 @@
 -- `fields::alloc_v4_bytes` meets its contract, by the test of 48 bytes.
 use borrow.Author.Tests.{lt-ltb, le-ltb}
-use Rattle.fields.specs.Fields.{allocV4Bytes}
+use Rattle.fields.specs.CheckKeyFields.{allocV4Bytes}
 use borrow.Author.Needs.{needs}
 use Rattle.fields.proofs.alloc_v4_bytes.Statement.{statement}
 use Rattle.fields.proofs.alloc_v4_bytes.Tie as tie

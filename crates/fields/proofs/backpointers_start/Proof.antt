@@ -1,6 +1,6 @@
 -- `fields::backpointers_start` meets its contract, by the test of 0.
 use borrow.Author.Tests.{eq-eqb, ne-eqb}
-use Rattle.fields.specs.Fields.{backpointersStart}
+use Rattle.fields.specs.CheckKeyFields.{backpointersStart}
 use native.Mathlib.Omega.{arith}
 use Rattle.fields.proofs.backpointers_start.Statement.{statement}
 use Rattle.fields.proofs.backpointers_start.Tie as tie

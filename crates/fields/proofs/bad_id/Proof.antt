@@ -1,6 +1,6 @@
 -- `fields::bad_id` meets its contract by computing.
 use mathlib.Core.Path.{refl}
-use Rattle.fields.specs.Fields.{badId}
+use Rattle.fields.specs.CheckKeyFields.{badId}
 use Rattle.fields.proofs.bad_id.Statement.{statement}
 use Rattle.fields.proofs.bad_id.Tie as tie
 

@@ -2,7 +2,7 @@
 use mathlib.Core.Path.{refl}
 use borrow.Author.Tests.{not-true, not-false}
 use Rattle.findings.proofs.Laws.{added-more, added-as, added-not}
-use Rattle.fields.specs.Fields.{accountingPositionBytes, accountingKind, checkAccountingKey}
+use Rattle.fields.specs.CheckKeyFields.{accountingPositionBytes, accountingKind, checkAccountingKey}
 use Rattle.fields.proofs.Laws.{accounting-found}
 use borrow.Author.Needs.{needs}
 use native.Mathlib.Omega.{arith}

@@ -1,5 +1,5 @@
 -- `fields::check_alloc_v4_value` meets its contract, by `alloc_v4_bytes`.
-use Rattle.fields.specs.Fields.{checkAllocV4Value}
+use Rattle.fields.specs.CheckKeyFields.{checkAllocV4Value}
 use borrow.Author.Needs.{needs}
 use native.Mathlib.Omega.{arith}
 use Rattle.fields.proofs.check_alloc_v4_value.Statement.{statement}

@@ -1,7 +1,7 @@
 -- `fields::check_head` meets its contract: one finding after the other.
 use Rattle.findings.proofs.Laws.{added-more}
 use Rattle.book.specs.Book.{is}
-use Rattle.fields.specs.Fields.{minimumValue}
+use Rattle.fields.specs.CheckKeyFields.{minimumValue}
 use Rattle.fields.specs.Steps.{sizeBad, snapshotBad, checkHead}
 use borrow.Author.Needs.{needs}
 use native.Mathlib.Omega.{arith}

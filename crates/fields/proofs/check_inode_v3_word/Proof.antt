@@ -2,7 +2,7 @@
 use mathlib.Core.Path.{refl}
 use borrow.Author.Tests.{lt-leb, le-leb}
 use Rattle.findings.proofs.Laws.{added-more, added-not, added-only}
-use Rattle.fields.specs.Fields.{checkInodeV3Word}
+use Rattle.fields.specs.CheckKeyFields.{checkInodeV3Word}
 use borrow.Author.Needs.{needs}
 use native.Mathlib.Omega.{arith}
 use Rattle.fields.proofs.check_inode_v3_word.Statement.{statement}

@@ -1,6 +1,6 @@
 -- `fields::check_key_device` meets its contract: one finding after the other.
 use Rattle.findings.proofs.Laws.{begin, more}
-use Rattle.fields.specs.Device.{elsewhere, checkKeyDevice}
+use Rattle.fields.specs.CheckKeyDevice.{elsewhere, checkKeyDevice}
 use borrow.Author.Needs.{needs}
 use native.Mathlib.Omega.{arith}
 use Rattle.fields.proofs.check_key_device.Statement.{statement}

@@ -3,7 +3,7 @@ use mathlib.Core.Path.{refl}
 use borrow.Author.Tests.{lt-leb, le-leb}
 use Rattle.findings.specs.Findings.{when}
 use Rattle.findings.proofs.Laws.{added-nil}
-use Rattle.fields.specs.Fields.{checkSnapshotPad}
+use Rattle.fields.specs.CheckKeyFields.{checkSnapshotPad}
 use borrow.Author.Needs.{needs}
 use native.Mathlib.Omega.{arith}
 use Rattle.fields.proofs.check_snapshot_pad.Statement.{statement}

@@ -1,6 +1,6 @@
 -- `fields::counters_bad` meets its contract by computing.
 use mathlib.Core.Path.{refl}
-use Rattle.fields.specs.Fields.{countersBad}
+use Rattle.fields.specs.CheckKeyFields.{countersBad}
 use Rattle.fields.proofs.counters_bad.Statement.{statement}
 use Rattle.fields.proofs.counters_bad.Tie as tie
 

@@ -1,6 +1,6 @@
 -- `fields::elsewhere` meets its contract by computing.
 use mathlib.Core.Path.{refl}
-use Rattle.fields.specs.Device.{elsewhere}
+use Rattle.fields.specs.CheckKeyDevice.{elsewhere}
 use Rattle.fields.proofs.elsewhere.Statement.{statement}
 use Rattle.fields.proofs.elsewhere.Tie as tie
 

@@ -1,6 +1,6 @@
 -- `fields::front_pad_bad` meets its contract, by the length.
 use borrow.Author.Tests.{lt-leb, le-leb}
-use Rattle.fields.specs.Fields.{frontPadBad}
+use Rattle.fields.specs.CheckKeyFields.{frontPadBad}
 use borrow.Author.Needs.{needs}
 use Rattle.fields.proofs.front_pad_bad.Statement.{statement}
 use Rattle.fields.proofs.front_pad_bad.Tie as tie

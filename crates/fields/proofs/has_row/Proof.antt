@@ -2,7 +2,7 @@
 use mathlib.Core.Path.{_≡_, refl, sym, _∙_}
 use Prim.Native.Nat.{_*_, _/_, _-_, _≤_}
 use lib.ListN.{length, drop}
-use Rattle.fields.specs.Fields.{hasRow}
+use Rattle.fields.specs.CheckKeyFields.{hasRow}
 use Rattle.fields.proofs.Laws.{row-step, row-none}
 use borrow.Author.Needs.{needs}
 use native.Mathlib.Omega.{arith}

@@ -1,6 +1,6 @@
 -- `fields::level_bad` meets its contract, by the length.
 use borrow.Author.Tests.{lt-leb, le-leb}
-use Rattle.fields.specs.Fields.{levelBad}
+use Rattle.fields.specs.CheckKeyFields.{levelBad}
 use borrow.Author.Needs.{needs}
 use Rattle.fields.proofs.level_bad.Statement.{statement}
 use Rattle.fields.proofs.level_bad.Tie as tie

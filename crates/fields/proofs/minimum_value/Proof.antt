@@ -1,7 +1,7 @@
 -- `fields::minimum_value` meets its contract: a pair is of one btree and one type.
 use mathlib.Core.Path.{_≡_, _∙_}
 use Rattle.book.specs.Book.{is}
-use Rattle.fields.specs.Fields.{minimumValue}
+use Rattle.fields.specs.CheckKeyFields.{minimumValue}
 use Rattle.fields.proofs.Laws.{pair-not}
 use borrow.Author.Needs.{needs}
 use native.Mathlib.Omega.{arith}

@@ -4,7 +4,7 @@ use mathlib.Core.Bool.{true, not}
 use lib.Dec.{eqb}
 use Rattle.findings.specs.Findings.{when}
 use Rattle.book.specs.Book.{bkey, is}
-use Rattle.fields.specs.Fields.{foreignType, badId, accountingJunk, accountingKind, checkPosition}
+use Rattle.fields.specs.CheckKeyFields.{foreignType, badId, accountingJunk, accountingKind, checkPosition}
 use Rattle.fields.specs.Steps.{kindFound}
 use Rattle.fields.proofs.Laws.{pair-not, position-is}
 use borrow.Author.Needs.{needs}

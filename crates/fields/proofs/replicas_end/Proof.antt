@@ -1,5 +1,5 @@
 -- `fields::replicas_end` meets its contract, by the number of devices.
-use Rattle.fields.specs.Fields.{replicasEnd}
+use Rattle.fields.specs.CheckKeyFields.{replicasEnd}
 use borrow.Author.Needs.{needs}
 use Rattle.fields.proofs.replicas_end.Statement.{statement}
 use Rattle.fields.proofs.replicas_end.Tie as tie

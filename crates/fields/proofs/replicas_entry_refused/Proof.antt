@@ -1,5 +1,5 @@
 -- `fields::replicas_entry_refused` meets its contract: the part from 4 to the end is the devices.
-use Rattle.fields.specs.Fields.{replicasEntryRefused}
+use Rattle.fields.specs.CheckKeyFields.{replicasEntryRefused}
 use Rattle.fields.proofs.Laws.{drop-take}
 use borrow.Author.Needs.{needs}
 use Rattle.fields.proofs.replicas_entry_refused.Statement.{statement}

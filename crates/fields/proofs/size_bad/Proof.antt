@@ -1,6 +1,6 @@
 -- `fields::size_bad` meets its contract, by the test.
 use mathlib.Core.Path.{sym, _∙_}
-use Rattle.fields.specs.Fields.{sizeZero}
+use Rattle.fields.specs.CheckKeyFields.{sizeZero}
 use Rattle.fields.proofs.Laws.{size-may, size-row}
 use borrow.Author.Needs.{needs}
 use Rattle.fields.proofs.size_bad.Statement.{statement}

@@ -1,6 +1,6 @@
 -- `fields::snapshot_bad` meets its contract, by the test of 0.
 use borrow.Author.Tests.{eq-eqb, ne-eqb}
-use Rattle.fields.specs.Fields.{snapshotZero}
+use Rattle.fields.specs.CheckKeyFields.{snapshotZero}
 use Rattle.fields.specs.Steps.{snapshotBad}
 use borrow.Author.Needs.{needs}
 use Rattle.fields.proofs.snapshot_bad.Statement.{statement}

@@ -2,7 +2,7 @@
 use mathlib.Core.Path.{_≡_, refl, sym, _∙_}
 use Prim.Native.Nat.{_-_, _≤_}
 use lib.ListN.{length, drop}
-use Rattle.fields.specs.Fields.{someNonzero}
+use Rattle.fields.specs.CheckKeyFields.{someNonzero}
 use borrow.Author.Tests.{ne-eqb}
 use Rattle.fields.proofs.Laws.{nonzero-step, nonzero-none}
 use borrow.Author.Needs.{needs}

@@ -2,7 +2,7 @@
 use mathlib.Core.Path.{_≡_, refl, sym, _∙_}
 use Prim.Native.Nat.{_-_, _≤_}
 use lib.ListN.{length, drop}
-use Rattle.fields.specs.Fields.{someNotRising}
+use Rattle.fields.specs.CheckKeyFields.{someNotRising}
 use borrow.Author.Tests.{le-leb, lt-leb}
 use Rattle.fields.proofs.Laws.{rising-step, rising-none}
 use borrow.Author.Needs.{needs}

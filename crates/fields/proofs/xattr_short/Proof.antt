@@ -1,6 +1,6 @@
 -- `fields::xattr_short` meets its contract, by the length.
 use borrow.Author.Tests.{lt-leb, le-leb}
-use Rattle.fields.specs.Fields.{xattrShort}
+use Rattle.fields.specs.CheckKeyFields.{xattrShort}
 use Rattle.fields.proofs.Laws.{word-at-2}
 use borrow.Author.Needs.{needs}
 use Rattle.fields.proofs.xattr_short.Statement.{statement}

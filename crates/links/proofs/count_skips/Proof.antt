@@ -4,7 +4,7 @@ use lib.ListN.{take}
 use lib.Dec.{eqb}
 use Rattle.walk.specs.Keys.{keyAt}
 use Rattle.pairs.proofs.Order.{both-true}
-use Rattle.links.specs.Links.{badSkip}
+use Rattle.links.specs.SnapshotLinks.{badSkip}
 use Rattle.links.proofs.Words.{skip-by, skip-zero, skip-count}
 use borrow.Author.Needs.{needs}
 use Rattle.links.proofs.count_skips.Statement.{statement}

@@ -1,5 +1,5 @@
 -- By what the enum is.
-use Rattle.links.specs.Links.{isOther}
+use Rattle.links.specs.SnapshotLinks.{isOther}
 use Rattle.links.specs.Steps.{wordIn}
 use borrow.Author.Needs.{needs}
 use Rattle.links.proofs.is_other.Statement.{statement}

@@ -1,5 +1,5 @@
 -- By what the enum is.
-use Rattle.links.specs.Links.{isThe}
+use Rattle.links.specs.SnapshotLinks.{isThe}
 use Rattle.links.specs.Steps.{wordIn}
 use borrow.Author.Needs.{needs}
 use Rattle.links.proofs.is_the.Statement.{statement}

@@ -11,7 +11,7 @@ use Rattle.parents.specs.Answers.{Lined}
 use Rattle.walk.specs.Keys.{AtKey}
 use Rattle.walk.proofs.Gather.{at-key, at-end, key-next}
 use Rattle.snapshots.specs.Words.{holds}
-use Rattle.links.specs.Links.{linkFindings}
+use Rattle.links.specs.SnapshotLinks.{linkFindings}
 use Rattle.findings.proofs.Laws.{found-as}
 use borrow.Author.Needs.{needs}
 use Rattle.links.proofs.show_snapshots.Statement.{statement}

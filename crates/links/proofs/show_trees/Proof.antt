@@ -9,7 +9,7 @@ use Rattle.book.specs.Book.{bookOf}
 use Rattle.book.proofs.Walk.{few-keys}
 use Rattle.maps.specs.Places.{lastPlaces}
 use Rattle.maps.proofs.Last.{each-last, each-ended}
-use Rattle.links.specs.Links.{treeFindings}
+use Rattle.links.specs.SnapshotLinks.{treeFindings}
 use Rattle.links.specs.Steps.{treeAt}
 use Rattle.links.proofs.Trees.{trees-each}
 use borrow.Author.Needs.{needs}

@@ -1,5 +1,5 @@
 -- By what the enum is.
-use Rattle.links.specs.Links.{wrongDepth}
+use Rattle.links.specs.SnapshotLinks.{wrongDepth}
 use Rattle.links.specs.Steps.{rootIn}
 use borrow.Author.Needs.{needs}
 use Rattle.links.proofs.wrong_depth.Statement.{statement}

@@ -5,7 +5,7 @@ use mathlib.Core.Bool.{_||_}
 use lib.ListN.{drop}
 use Rattle.pairs.specs.Pairs.{pairsOf}
 use Rattle.book.specs.Book.{bookOf}
-use Rattle.snapshots.specs.Children.{fsParents}
+use Rattle.snapshots.specs.SubvolumeChildren.{fsParents}
 use Rattle.snapshots.specs.Steps.{anyWrong, Known}
 use Rattle.snapshots.proofs.Children.{wrong-at, wrong-past}
 use borrow.Author.Needs.{needs}

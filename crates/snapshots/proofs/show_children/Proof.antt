@@ -2,7 +2,7 @@
 use mathlib.Core.Path.{sym, _∙_}
 use mathlib.Core.List.{append-nil}
 use Rattle.findings.proofs.Laws.{more-lent, found-as}
-use Rattle.snapshots.specs.Children.{subvolumeChildren}
+use Rattle.snapshots.specs.SubvolumeChildren.{subvolumeChildren}
 use Rattle.snapshots.proofs.Children.{wrongs-none}
 use borrow.Author.Needs.{needs}
 use native.Mathlib.Omega.{arith}

@@ -10,7 +10,7 @@ use Rattle.walk.specs.Keys.{keyAt}
 use Rattle.maps.specs.Places.{lastPlaces}
 use Rattle.maps.proofs.Last.{each-last, each-ended}
 use Rattle.snapshots.specs.Words.{word}
-use Rattle.snapshots.specs.Children.{missingEntry}
+use Rattle.snapshots.specs.SubvolumeChildren.{missingEntry}
 use Rattle.snapshots.proofs.Children.{missing-all}
 use borrow.Author.Needs.{needs}
 use native.Mathlib.Omega.{arith}

@@ -9,7 +9,7 @@ use Rattle.book.specs.Book.{Bkey, keysFrom, bookOf}
 use Rattle.book.specs.Walk.{KeysFit}
 use Rattle.book.proofs.Walk.{parts, step, no-keys}
 use Rattle.walk.proofs.Gather.{at-key, at-end, key-next}
-use Rattle.snapshots.specs.Children.{fsParents, isEntry, wrongEntry}
+use Rattle.snapshots.specs.SubvolumeChildren.{fsParents, isEntry, wrongEntry}
 use borrow.Author.Needs.{needs}
 use native.Mathlib.Omega.{arith}
 use Rattle.snapshots.proofs.show_wrongs.Statement.{statement}

@@ -6,7 +6,7 @@ use Rattle.book.specs.Book.{keysFrom}
 use Rattle.book.specs.Walk.{KeysFit}
 use Rattle.book.proofs.Walk.{parts, step, no-keys}
 use Rattle.walk.proofs.Gather.{at-key, at-end, key-next}
-use Rattle.snapshots.specs.Flags.{flagFindings, snapshotSubvolFlags}
+use Rattle.snapshots.specs.SnapshotSubvolFlags.{flagFindings, snapshotSubvolFlags}
 use borrow.Author.Needs.{needs}
 use native.Mathlib.Omega.{arith}
 use Rattle.snapshots.proofs.snapshot_subvol_flags.Statement.{statement}

@@ -2,7 +2,7 @@
 use Rattle.findings.proofs.Laws.{added-more, added-as}
 use Rattle.states.proofs.Words.{snapshot-findings}
 use Rattle.findings.proofs.Walk.{rule}
-use Rattle.states.specs.Distance.{snapStates}
+use Rattle.states.specs.StateDistance.{snapStates}
 use native.Mathlib.Omega.{arith}
 use Rattle.states.proofs.check_snapshot_state.Statement.{statement}
 use Rattle.states.proofs.check_snapshot_state.Tie as tie

@@ -3,8 +3,8 @@ use Rattle.findings.proofs.Laws.{added-more, added-as, added-nil}
 use Rattle.states.proofs.Words.{word-findings, no-word}
 use mathlib.Core.Path.{sym, ap, _∙_}
 use Rattle.findings.proofs.Walk.{rule}
-use Rattle.states.specs.Distance.{subvolStates}
-use Rattle.states.specs.Words.{subvolumeWord}
+use Rattle.states.specs.StateDistance.{subvolStates}
+use Rattle.states.specs.CheckStateWords.{subvolumeWord}
 use native.Mathlib.Omega.{arith}
 use Rattle.states.proofs.check_subvolume_word.Statement.{statement}
 use Rattle.states.proofs.check_subvolume_word.Tie as tie

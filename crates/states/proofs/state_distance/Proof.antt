@@ -3,7 +3,7 @@ use Prim.Native.Nat.{_≤_, _-_, min}
 use mathlib.Core.Path.{_≡_}
 use mathlib.Core.Logic.{⊎-elim}
 use lib.ListN.{length, drop}
-use Rattle.states.specs.Distance.{stateDistance}
+use Rattle.states.specs.StateDistance.{stateDistance}
 use Rattle.states.proofs.Bits.{distance-le, distance-next, distance-none}
 use borrow.Author.Needs.{needs}
 use native.Mathlib.Omega.{arith}

@@ -1,5 +1,5 @@
 -- By computation.
-use Rattle.states.specs.Words.{stateRequired}
+use Rattle.states.specs.CheckStateWords.{stateRequired}
 use borrow.Author.Needs.{needs}
 use Rattle.states.proofs.state_required.Statement.{statement}
 use Rattle.states.proofs.state_required.Tie as tie

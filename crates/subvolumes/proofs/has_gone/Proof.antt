@@ -5,7 +5,7 @@ use Rattle.book.specs.Walk.{KeysFit}
 use Rattle.book.proofs.Walk.{parts, step}
 use Rattle.walk.proofs.Gather.{at-key, at-end}
 use Rattle.walk.specs.Keys.{anyKey}
-use Rattle.subvolumes.specs.Subvolumes.{unavailable}
+use Rattle.subvolumes.specs.SubvolumeStates.{unavailable}
 use Rattle.subvolumes.proofs.States.{any-here, any-next, any-end}
 use borrow.Author.Needs.{needs}
 use native.Mathlib.Omega.{arith}

@@ -4,7 +4,7 @@ use Rattle.book.specs.Book.{keysFrom}
 use Rattle.book.specs.Walk.{KeysFit}
 use Rattle.book.proofs.Walk.{parts, step}
 use Rattle.walk.proofs.Gather.{at-key, at-end}
-use Rattle.subvolumes.specs.Subvolumes.{isUnavailable}
+use Rattle.subvolumes.specs.SubvolumeStates.{isUnavailable}
 use Rattle.subvolumes.proofs.States.{gone-here, gone-next, gone-end}
 use borrow.Author.Needs.{needs}
 use native.Mathlib.Omega.{arith}

@@ -4,7 +4,7 @@ use lib.ListN.{drop}
 use Rattle.findings.proofs.Walk.{Begun, first, turn, last, begun-length}
 use Rattle.subvolumes.proofs.Counts.{run-findings, no-findings}
 use Rattle.subvolumes.specs.Steps.{firsts}
-use Rattle.subvolumes.specs.Subvolumes.{claimFindings}
+use Rattle.subvolumes.specs.SnapshotClaims.{claimFindings}
 use borrow.Author.Needs.{needs}
 use native.Mathlib.Omega.{arith}
 use Rattle.subvolumes.proofs.show_claims.Statement.{statement}

@@ -3,7 +3,7 @@ use mathlib.Core.Path.{ap, _∙_}
 use Rattle.book.proofs.Walk.{parts}
 use Rattle.pairs.specs.Pairs.{sort}
 use Rattle.pairs.proofs.Order.{sorted-by}
-use Rattle.subvolumes.specs.Subvolumes.{claimed, snapshotClaims}
+use Rattle.subvolumes.specs.SnapshotClaims.{claimed, snapshotClaims}
 use Rattle.book.specs.Book.{keysFrom}
 use Rattle.subvolumes.proofs.Claims.{claims-paired}
 use Rattle.subvolumes.proofs.Counts.{sorted-findings}

@@ -1,13 +1,13 @@
--- The rules `subvolume_states` (document 01, kinds 29 to 31) and `snapshot_claims` (32).
-use Prim.Native.Nat.{ℕ, suc}
-use mathlib.Core.Bool.{Bool, false, cond, not, _&&_, _||_}
+-- The rule `subvolume_states` (document 01, kinds 29 to 31).
+use Prim.Native.Nat.{ℕ}
+use mathlib.Core.Bool.{Bool, false, _&&_, _||_}
 use mathlib.Core.List.{List, [], _∷_, _++_}
 use lib.ListN.{length}
-use lib.Dec.{eqb, ltb, leb}
+use lib.Dec.{eqb, leb}
 use Rattle.bits.specs.Bits.{leAt}
 use Rattle.findings.specs.Findings.{Finding, finding, when, only, each}
 use Rattle.book.specs.Book.{Bkey, Book, is}
-use Rattle.states.specs.Distance.{distance, snapLive, subvolUnlinked, subvolDeleted}
+use Rattle.states.specs.StateDistance.{snapLive, subvolUnlinked, subvolDeleted}
 
 -- a subvolume (btree 8, type 21) whose value has a state word, at 40
 unfoldable pub hasSubvolState : Bkey → Bool
@@ -50,31 +50,3 @@ subvolumeStates b = each (λ _ k. only (unavailable k) (subvolumeFindings b k)) 
 unfoldable pub isUnavailable : ℕ → List Bkey → Bool
 isUnavailable id [] = false
 isUnavailable id (k ∷ ks) = (unavailable k && eqb (k .offset) id) || isUnavailable id ks
-
--- a subvolume that claims the snapshot at 4: one of 8 value bytes or more that is not within 2 bits of deleted
-unfoldable pub claims : Bkey → Bool
-claims k =
-    (is 8 21 k && leb 8 (length (k .value))) && not (leb 44 (length (k .value)) && leb (distance (subvolState k) subvolDeleted) 2)
-
--- the snapshots claimed, in key order, with repeats
-unfoldable pub claimed : List Bkey → List ℕ
-claimed [] = []
-claimed (k ∷ ks) = cond (claims k) (leAt (k .value) 4 4 ∷ claimed ks) (claimed ks)
-
--- x counted once more in a map of counts
-unfoldable pub countOne : ℕ → List (ℕ × ℕ) → List (ℕ × ℕ)
-countOne x [] = (x, 1) ∷ []
-countOne x (e ∷ m) = cond (ltb x (e .0)) ((x, 1) ∷ e ∷ m) (cond (eqb x (e .0)) ((x, suc (e .1)) ∷ m) (e ∷ countOne x m))
-
--- each number of a list with how often it stands there, as a map
-unfoldable pub counts : List ℕ → List (ℕ × ℕ)
-counts [] = []
-counts (x ∷ xs) = countOne x (counts xs)
-
--- 32 snapshot_claimed_twice: each number that stands more than once in a list, and how often, in order
-unfoldable pub claimFindings : List ℕ → List Finding
-claimFindings xs = each (λ _ e. when (ltb 1 (e .1)) (finding 32 (e .0) (e .1))) 0 (counts xs)
-
--- each snapshot with more than one claimant, and their number, in id order
-unfoldable pub snapshotClaims : Book → List Finding
-snapshotClaims b = claimFindings (claimed (b .keys))

@@ -7,7 +7,7 @@ use lib.Dec.{eqb, ltb, leb}
 use Rattle.bits.specs.Bits.{leAt}
 use Rattle.findings.specs.Findings.{Finding, finding, when, only}
 use Rattle.book.specs.Book.{Bkey, is}
-use Rattle.states.specs.Distance.{stateDistance, snapStates, subvolStates}
+use Rattle.states.specs.StateDistance.{stateDistance, snapStates, subvolStates}
 
 -- "from version 1,063 (1.39) on": states must be set
 unfoldable pub stateRequired : ℕ → Bool

@@ -9,7 +9,7 @@ use Rattle.findings.specs.Findings.{Finding, finding, when, only, each}
 use Rattle.book.specs.Maps.{lookup}
 use Rattle.book.specs.Book.{Bkey, Book, is}
 use Rattle.maps.specs.Maps.{mapOf}
-use Rattle.states.specs.Distance.{subvolDeleted}
+use Rattle.states.specs.StateDistance.{subvolDeleted}
 use Rattle.walk.specs.Keys.{anyKey}
 use Rattle.snapshots.specs.Words.{word, holds}
 

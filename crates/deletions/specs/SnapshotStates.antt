@@ -8,7 +8,7 @@ use Rattle.bits.specs.Bits.{leAt}
 use Rattle.findings.specs.Findings.{Finding, finding, when, only, each, bytesOf}
 use Rattle.book.specs.Book.{Bkey, Book, is}
 use Rattle.walk.specs.Keys.{anyKey}
-use Rattle.states.specs.Distance.{snapLive, snapWillDelete, snapNoKeys, snapDeleted, subvolLive}
+use Rattle.states.specs.StateDistance.{snapLive, snapWillDelete, snapNoKeys, snapDeleted, subvolLive}
 
 -- a snapshot (btree 9, type 22) whose value has a state word, at 56
 unfoldable pub hasSnapState : Bkey → Bool

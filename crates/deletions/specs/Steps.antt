@@ -8,9 +8,9 @@ use Rattle.bits.specs.Bits.{leAt}
 use Rattle.findings.specs.Findings.{Finding, finding, when, only}
 use Rattle.pairs.specs.Pairs.{pair, has}
 use Rattle.book.specs.Book.{Bkey, is}
-use Rattle.states.specs.Distance.{snapWillDelete, snapNoKeys, snapDeleted, subvolLive}
-use Rattle.deletions.specs.Snapshots.{hasSnapState, snapState, accountedId}
-use Rattle.subvolumes.specs.Subvolumes.{isLiveSnapshot}
+use Rattle.states.specs.StateDistance.{snapWillDelete, snapNoKeys, snapDeleted, subvolLive}
+use Rattle.deletions.specs.SnapshotStates.{hasSnapState, snapState, accountedId}
+use Rattle.subvolumes.specs.SubvolumeStates.{isLiveSnapshot}
 
 -- a live subvolume (btree 8, type 21; state word at 40)
 unfoldable pub isLiveSubvolume : Bkey → Bool
