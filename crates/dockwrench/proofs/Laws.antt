@@ -21,17 +21,13 @@ use Rattle.book.proofs.Bounds.{refused-bounds}
 use Rattle.parents.specs.declared.Root.{Root}
 use Rattle.parents.specs.declared.Root.the-variants as root
 use Rattle.parents.specs.Roots.{rootOf}
-use Rattle.parents.specs.Answers.{rootIs, ancestorsOf}
-use Rattle.parents.proofs.Laws.{root-at, root-none, len-le, root-len}
+use Rattle.parents.specs.Chains.{rootIs}
+use Rattle.parents.proofs.Laws.{root-at, root-none, root-few}
 use Rattle.dockwrench.specs.declared.Checked.{Checked}
 use Rattle.dockwrench.specs.declared.Checked.the-variants as checked
 use Rattle.dockwrench.specs.declared.Ancestor.the-variants as ancestor
 use Rattle.dockwrench.specs.declared.Availability.the-variants as availability
 use Rattle.dockwrench.specs.Answers.{workShort, zeros, countIn, checkBook, checkOf, checkedAnswer, ancestorBy, ancestorOf, availabilityBy, availabilityOf}
-
--- a root is at most 1,024 links away
-pub few-links : (t : List (ℕ × ℕ)) (id : ℕ) {r : ℕ × ℕ} → rootOf t id ≡ some r → r .1 ≤ 1024
-few-links t id e = omega (arith, len-le t id {a = ancestorsOf t id} refl, root-len t id {a = ancestorsOf t id} refl e)
 
 -- the answers of `root_of`
 pub found-root : (o : Option (ℕ × ℕ)) {x n : ℕ} → rootIs o ≡ root.At x n → ancestor.Root x n ≡ ancestorBy o
@@ -46,7 +42,7 @@ found-none o e = rw (root-none o e)
 by-links : (t : List (ℕ × ℕ)) (id : ℕ) (o : Option (ℕ × ℕ)) → rootOf t id ≡ o → {x n : ℕ} → ancestorBy o ≡ ancestor.Root x n → n ≤ 1024
 unfolding ancestorBy
 by-links t id none e h = let z : _≡_ {A = ℕ} 0 1 = cc in absurd (omega arith)
-by-links t id (some r) e {x} {n} h = let q : r .1 ≡ n = cc in omega (arith, few-links t id e)
+by-links t id (some r) e {x} {n} h = let q : r .1 ≡ n = cc in omega (arith, root-few t id e)
 
 pub ancestor-links : (o : Outcome) (id : ℕ) {x n : ℕ} → ancestorOf o id ≡ ancestor.Root x n → n ≤ 1024
 unfolding ancestorOf

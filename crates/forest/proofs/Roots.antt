@@ -7,7 +7,7 @@ use Prim.Native.Nat.{ℕ, zero, suc, _≤_}
 use native.Mathlib.Omega.{arith}
 use Rattle.book.specs.Maps.{lookup}
 use Rattle.parents.specs.Roots.{oneMore, rootWithin, rootOf}
-use Rattle.parents.specs.Answers.{chain}
+use Rattle.parents.specs.Chains.{chain}
 use Rattle.parents.specs.Roots.{above}
 use Rattle.parents.proofs.Links.{link-to, link-top, chain-more, chain-end, root-more, root-full, root-here, root-absent}
 use Rattle.parents.proofs.Laws.{root-all}

@@ -13,7 +13,7 @@ ghost use Rattle.book.specs.Walk.{Opened, maybeU32};
 ghost use Rattle.walk.specs.Keys.{keyAt, AtKey, gather};
 ghost use Rattle.maps.specs.Places.{placePair};
 ghost use Rattle.maps.specs.Sorted.{lastAt};
-ghost use Rattle.parents.specs.Answers.{Lined};
+ghost use Rattle.ancestors.specs.Lines.{Lined};
 ghost use Rattle.snapshots.specs.Words.{holds, subvolumeWord, treeWord, skipWords, idOf};
 ghost use Rattle.links.specs.SnapshotLinks.{
   treeMap,
@@ -33,6 +33,7 @@ ghost use Rattle.links.specs.SnapshotLinks.{
   snapshotLinks,
 };
 ghost use Rattle.links.specs.Steps.{wordIn, rootIn, rootNamed, sameRoot, linkPair, treeAt, Ready};
+use ancestors::Line;
 use book::Header;
 use book::KeyFront;
 use book::MaybeU32;
@@ -40,7 +41,6 @@ use book::Places;
 use findings::emit;
 use findings::emit_if;
 use pairs::MaybeU64;
-use parents::Line;
 use parents::Root;
 
 // How many findings there are with those of a key, and the line of the last snapshot.
@@ -114,7 +114,9 @@ fn bad_child(book: &[u8], h: Header, at: Places, id: u32, child: u32) -> bool
     if child == 0 {
         return false;
     }
-    let parent = parents::parent_of(book, at.parents, h.parents as usize, child);
+    let count = h.parents as usize;
+    let found = parents::parent_of(book, at.parents, count, count, child);
+    let parent = found.word;
     !is_the(parent, id)
 }
 
@@ -151,7 +153,7 @@ fn count_skips(book: &[u8], p: usize, f: KeyFront, ids: &[u32; 1024], len: usize
     if (a == 0) & (b == 0) & (c == 0) {
         return 0;
     }
-    let above = parents::contains(ids, len, a, b, c);
+    let above = ancestors::contains(ids, len, a, b, c);
     count_skip(id, a, above.a) + count_skip(id, b, above.b) + count_skip(id, c, above.c)
 }
 
@@ -366,7 +368,7 @@ fn show_snapshot(
 {
     if ((f.btree == 9) & (f.key_type == 22)) & (40 <= f.len) {
         let id = key_id(book, p, f);
-        let next = parents::line_beside(book, at.parents, h.parents as usize, line, id, ids);
+        let next = ancestors::line_beside(book, at.parents, h.parents as usize, line, id, ids);
         let found = show_links(book, h, at, work, n, p, f, next, ids, out, m);
         return Shown { found, line: next };
     }
@@ -387,7 +389,7 @@ fn show_snapshots(
     ensures few { λ r. ⌜ r ≤ h .keys * 6 ⌝ }
 {
     let mut ids = [0u32; 1024];
-    let mut line = parents::line_of(book, at.parents, h.parents as usize, 0, 0, &mut ids);
+    let mut line = ancestors::line_of(book, at.parents, h.parents as usize, 0, 0, &mut ids);
     let mut found: usize = 0;
     let mut left = h.keys;
     let mut p = at.keys;

@@ -2,20 +2,15 @@
 use mathlib.Core.Path.{_≡_, refl}
 use mathlib.Core.List.{[], _∷_}
 use mathlib.Core.Option.{none, some}
-use lib.ListN.{take}
 use Rattle.pairs.specs.Pairs.{has}
 use Rattle.book.specs.Maps.{lookup}
 use Rattle.parents.specs.Roots.{oneMore, rootVia, rootWithin, rootOf, followedVia, followed, above}
-use Rattle.parents.specs.Answers.{chainVia, chain, padded, ancestorsOf}
+use Rattle.parents.specs.Chains.{chainVia, chain}
 
--- 9 is absent and still included, also in the array
+-- 9 is absent and still included
 absent-above : (rootOf ((5, 7) ∷ (7, 9) ∷ []) 5 ≡ none) × (above ((5, 7) ∷ (7, 9) ∷ []) 5 ≡ 7 ∷ 9 ∷ [])
 unfolding oneMore rootVia rootWithin rootOf followedVia followed above lookup has
 absent-above = (refl, refl)
-
-absent-array : ((ancestorsOf ((5, 7) ∷ (7, 9) ∷ []) 5) .len ≡ 2) × (take 3 ((ancestorsOf ((5, 7) ∷ (7, 9) ∷ []) 5) .ids) ≡ 7 ∷ 9 ∷ 0 ∷ [])
-unfolding chainVia chain padded ancestorsOf lookup
-absent-array = (refl, refl)
 
 -- after 8 the next would be a repeat, 6; in the second after 6 the snapshot itself
 repeat-above : (above ((5, 6) ∷ (6, 8) ∷ (8, 6) ∷ []) 5 ≡ 6 ∷ 8 ∷ []) × (above ((5, 6) ∷ (6, 5) ∷ []) 5 ≡ 6 ∷ [])

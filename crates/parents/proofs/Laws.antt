@@ -1,30 +1,23 @@
 -- What callers cite of the walk:
 --     root-at, root-none    what the answer of `root_of` says of the root
+--     root-few              the links to a root are at most 1,024
 --     root-all              with a root, `above` is the whole chain, and has as many ids as the root has links
--- of a line:
---     among                 an id other than the snapshot is in its array exactly if it is one of `above`
---     lined-few             its length is what `contains` requires
--- and of an answer of `ancestors_of`:
---     len-le                its length is at most 1,024
---     root-is, root-len     its root, and that its length is the number of links to it
-use Prim.Native.Nat.{ℕ, zero, suc, _-_, _≤_, zero-le, suc-le-suc}
+--     among-chain           an id other than the snapshot is in the chain exactly if it is one of `above`
+use Prim.Native.Nat.{ℕ, zero, suc, _≤_, zero-le, suc-le-suc}
 use mathlib.Core.Path.{_≡_, refl, sym, ap, _∙_}
 use mathlib.Core.Bool.{true, false, _||_, or-false, or-true}
 use mathlib.Core.Logic.{⊎-elim}
 use mathlib.Core.List.{List, [], _∷_}
 use mathlib.Core.Option.{Option, none, some}
-use lib.ListN.{length, take, replicate}
-use lib.Seq.{take-append-seam}
+use lib.ListN.{length}
 use lib.Dec.{eqb}
 use borrow.Author.Tests.{eq-eqb, ne-eqb}
 use Rattle.pairs.specs.Pairs.{has}
 use Rattle.pairs.proofs.Order.{tested, same-or-not}
 use Rattle.book.specs.Maps.{lookup}
 use Rattle.parents.specs.Roots.{oneMore, rootWithin, rootOf, followed, above}
-use Rattle.parents.specs.Answers.{rootIs, chain, padded, ancestorsOf, Lined}
+use Rattle.parents.specs.Chains.{rootIs, chain}
 use Rattle.parents.specs.declared.Root.the-variants.{At, NoRoot}
-use Rattle.parents.specs.declared.Ancestors.{Ancestors}
-use Rattle.parents.specs.declared.Line.{Line}
 use Rattle.parents.proofs.Links.{clash, link, by-link, by-step, link-top, chain-more, chain-end, followed-more, followed-end, root-more, root-full, root-here, root-absent}
 
 pub root-at : (o : Option (ℕ × ℕ)) {root links : ℕ} → rootIs o ≡ At root links → o ≡ some (root, links)
@@ -120,7 +113,7 @@ module _ (t : List (ℕ × ℕ)) where
       (more-both s p _ _ seen (same-ids s n p (p ∷ seen) (linked-more seen at p l e) (has-head p seen refl))))
       (tested (has p seen))))
 
-  among-chain : (id s : ℕ) → (s ≡ id → ⊥) → has s (chain t id 1024) ≡ has s (above t id)
+  pub among-chain : (id s : ℕ) → (s ≡ id → ⊥) → has s (chain t id 1024) ≡ has s (above t id)
   unfolding above
   among-chain id s other =
       let alone = has-other s [] other ∙ has-nil s in
@@ -172,29 +165,6 @@ module _ (t : List (ℕ × ℕ)) where
       let all = no-repeat 1024 id (id ∷ []) (linked-one id) (has-head id [] refl) e in
       (all, rw all (root-length 1024 id e))
 
-  -- ---- a line
-  module _ {ids : List ℕ} {l : Line} (h : Lined t ids l) where
-    pub among : {s : ℕ} → (s ≡ l .id → ⊥) → has s (take (l .len) ids) ≡ has s (above t (l .id))
-    among {s} other = rw (h .ids-are) (among-chain (l .id) s other)
-
-    pub lined-few : l .len ≤ 1024
-    lined-few = rw (h .len-is) (chain-le 1024 (l .id))
-
-  -- ---- what `ancestors_of` answers
-  module _ (id : ℕ) {a : Ancestors} (e : a ≡ ancestorsOf t id) where
-    -- the array begins with the ids on the way
-    pub array-is : take (a .len) (a .ids) ≡ chain t id 1024
-    unfolding ancestorsOf padded
-    array-is = rw e (take-append-seam (chain t id 1024) (replicate (1024 - length (chain t id 1024)) 0))
-
-    pub len-le : a .len ≤ 1024
-    unfolding ancestorsOf
-    len-le = rw e (chain-le 1024 id)
-
-    pub root-is : a .root ≡ rootIs (rootOf t id)
-    unfolding ancestorsOf
-    root-is = rw e
-
-    pub root-len : {r : ℕ × ℕ} → rootOf t id ≡ some r → a .len ≡ r .1
-    unfolding rootOf ancestorsOf
-    root-len h = rw e (root-length 1024 id h)
+  pub root-few : (id : ℕ) {r : ℕ × ℕ} → rootOf t id ≡ some r → r .1 ≤ 1024
+  unfolding rootOf
+  root-few id e = rw (← root-length 1024 id e) (chain-le 1024 id)

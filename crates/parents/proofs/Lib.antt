@@ -1,8 +1,6 @@
--- For this crate and those that link it: `Laws` has what callers cite of the walk.
-mod Beside
-mod Climb
+-- For this crate and those that link it: `Links` has one link up, `Climb` a walk of them, `Laws` what callers cite of it.
+pub mod Climb
 mod Examples
 pub mod Laws
 pub mod Links
-mod Shift
 mod Viewed

@@ -8,7 +8,7 @@ use native.Mathlib.Omega.{arith}
 use Rattle.pairs.specs.Pairs.{has}
 use Rattle.book.specs.Maps.{lookup}
 use Rattle.parents.specs.Roots.{oneMore, rootVia, rootWithin, followedVia, followed}
-use Rattle.parents.specs.Answers.{chainVia, chain}
+use Rattle.parents.specs.Chains.{chainVia, chain}
 
 -- anything follows where two constructors would be equal: `clash (cc)`
 pub clash : {A : Type 0} → _≡_ {A = ℕ} 0 1 → A

@@ -1,3 +1,2 @@
-pub mod Answers
 pub mod Roots
-pub mod Steps
+pub mod Chains

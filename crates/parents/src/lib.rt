@@ -1,16 +1,11 @@
-// The parents of a book: an id's parent through a view of the table, the root above an id, and an id's ancestors.
+// The parents of a book: an id's parent through a view of the table, and the root above an id.
 ghost use mathlib.Core.Path.{_≡_};
-ghost use mathlib.Core.List.{_∷_};
-ghost use mathlib.Core.Option.{some};
-ghost use Prim.Native.Nat.{_+_, _≤_, _<_, min};
-ghost use lib.ListN.{length, take, drop};
-ghost use Rattle.pairs.specs.Pairs.{has};
+ghost use Prim.Native.Nat.{_≤_};
 ghost use Rattle.book.specs.Maps.{lookup};
 ghost use Rattle.book.specs.Book.{wordsTable, wordsFrom};
 ghost use Rattle.book.specs.Walk.{Rising, maybeU32};
 ghost use Rattle.parents.specs.Roots.{rootOf};
-ghost use Rattle.parents.specs.Answers.{rootIs, ancestorsOf, Lined};
-ghost use Rattle.parents.specs.Steps.{isRooted, withLinks, rootBelow};
+ghost use Rattle.parents.specs.Chains.{rootIs};
 use book::MaybeU32;
 use book::WordAt;
 
@@ -27,29 +22,6 @@ pub enum Root {
     NoRoot,
 }
 
-// The ids above a snapshot, nearest first, and the root.
-pub struct Ancestors {
-    pub ids: [u32; 1024],
-    pub len: usize,
-    pub root: Root,
-}
-
-// Which of three ids are among others.
-pub struct Among {
-    pub a: bool,
-    pub b: bool,
-    pub c: bool,
-}
-
-// What is known of the ids above a snapshot that an array begins with: the snapshot, how many they are, and the root. From the place `near` the
-// table is searched for the next snapshot.
-pub struct Line {
-    pub id: u32,
-    pub len: usize,
-    pub root: Root,
-    pub near: usize,
-}
-
 // A view of the table.
 pub fn view<'a>(book: &'a [u8], start: usize, count: usize) -> Parents<'a>
     ensures { λ r. ⌜ (r .book ≡ book .entry) × (r .start ≡ start) × (r .count ≡ count) ⌝ }
@@ -57,36 +29,21 @@ pub fn view<'a>(book: &'a [u8], start: usize, count: usize) -> Parents<'a>
     Parents { book, start, count }
 }
 
-// The parent that the table gives `id`: the view is taken apart, and the search is called.
-pub fn get<'a>(v: Parents<'a>, id: u32) -> MaybeU32
-    requires { ⌜ Rising wordsTable (now (v .book)) (v .start) (v .count) ⌝ }
-    ensures { λ r. ⌜ r ≡ maybeU32 (lookup id (wordsFrom (now (v .entry .book)) (v .entry .count) (v .entry .start))) ⌝ }
-{
-    book::find_word(v.book, v.start, v.count, id)
-}
-
-// The same from the place `near` on, with the place of `id`.
-pub fn get_near<'a>(v: Parents<'a>, near: usize, id: u32) -> WordAt
+// The parent that the table gives `id`, and the place of `id`: the view is taken apart, and the search is called. It starts from the place `near`,
+// such as that of the id before in a chain; from the count, it is among all entries.
+pub fn get<'a>(v: Parents<'a>, near: usize, id: u32) -> WordAt
     requires { ⌜ Rising wordsTable (now (v .book)) (v .start) (v .count) × (near ≤ v .count) ⌝ }
     ensures { λ r. ⌜ (r .word ≡ maybeU32 (lookup id (wordsFrom (now (v .entry .book)) (v .entry .count) (v .entry .start)))) × (r .at ≤ v .entry .count) ⌝ }
 {
     book::find_word_near(v.book, v.start, v.count, near, id)
 }
 
-// The parent that the table gives `id`, for callers that hold no view: one is made and consulted here.
-pub fn parent_of(book: &[u8], start: usize, count: usize, id: u32) -> MaybeU32
-    requires { ⌜ Rising wordsTable (now book) start count ⌝ }
-    ensures { λ r. ⌜ r ≡ maybeU32 (lookup id (wordsFrom (now (book .entry)) count start)) ⌝ }
-{
-    get(view(book, start, count), id)
-}
-
-// The same from the place `near` on, with the place of `id`: by it the next id of a chain is looked for.
-fn parent_near(book: &[u8], start: usize, count: usize, near: usize, id: u32) -> WordAt
+// The same, for callers that hold no view: one is made and consulted here.
+pub fn parent_of(book: &[u8], start: usize, count: usize, near: usize, id: u32) -> WordAt
     requires { ⌜ Rising wordsTable (now book) start count × (near ≤ count) ⌝ }
     ensures { λ r. ⌜ (r .word ≡ maybeU32 (lookup id (wordsFrom (now (book .entry)) count start))) × (r .at ≤ count) ⌝ }
 {
-    get_near(view(book, start, count), near, id)
+    get(view(book, start, count), near, id)
 }
 
 // The root above `id`, within 1,024 links.
@@ -98,7 +55,7 @@ pub fn root_of(book: &[u8], start: usize, count: usize, id: u32) -> Root
     let mut near = count;
     let mut links: u32 = 0;
     loop {
-        let found = parent_near(book, start, count, near, at);
+        let found = parent_of(book, start, count, near, at);
         near = found.at;
         let parent = found.word;
         let MaybeU32::Is(p) = parent else {
@@ -113,278 +70,4 @@ pub fn root_of(book: &[u8], start: usize, count: usize, id: u32) -> Root
         at = p;
         links += 1;
     }
-}
-
-// The ids above `id`, repeats included, and its root.
-pub fn ancestors_of(book: &[u8], start: usize, count: usize, id: u32) -> Ancestors
-    requires { ⌜ Rising wordsTable (now book) start count ⌝ }
-    ensures { λ r. ⌜ r ≡ ancestorsOf (wordsFrom (now (book .entry)) count start) id ⌝ }
-{
-    let mut ids = [0u32; 1024];
-    let mut len: usize = 0;
-    let mut at = id;
-    let mut near = count;
-    loop {
-        let found = parent_near(book, start, count, near, at);
-        near = found.at;
-        let parent = found.word;
-        let MaybeU32::Is(p) = parent else {
-            return Ancestors {
-                ids,
-                len,
-                root: Root::NoRoot,
-            };
-        };
-        if p == 0 {
-            return Ancestors {
-                ids,
-                len,
-                root: Root::At {
-                    root: at,
-                    links: len as u32,
-                },
-            };
-        }
-        if len == 1024 {
-            return Ancestors {
-                ids,
-                len,
-                root: Root::NoRoot,
-            };
-        }
-        ids[len] = p;
-        len += 1;
-        at = p;
-    }
-}
-
-// Which of three ids are among the first `len` of a lent array: all are looked at, so that many are compared at once.
-pub fn contains(ids: &[u32; 1024], len: usize, a: u32, b: u32, c: u32) -> Among
-    requires { ⌜ (len ≤ 1024) × (length (now ids) ≡ 1024) ⌝ }
-    ensures { λ r. ⌜ (r .a ≡ has a (take len (now (ids .entry)))) × (r .b ≡ has b (take len (now (ids .entry)))) × (r .c ≡ has c (take len (now (ids .entry)))) ⌝ }
-{
-    let mut found = Among {
-        a: false,
-        b: false,
-        c: false,
-    };
-    let mut i = 0;
-    while i < len {
-        let id = ids[i];
-        found = Among {
-            a: found.a | (a == id),
-            b: found.b | (b == id),
-            c: found.c | (c == id),
-        };
-        i += 1;
-    }
-    found
-}
-
-// Puts `id` first, and the others of the first `end` ids one place up.
-fn put_first(ids: &mut [u32; 1024], end: usize, id: u32)
-    requires { ⌜ (end ≤ 1024) × (length (now ids) ≡ 1024) ⌝ }
-    ensures { λ _. ⌜ (take end (now (ids .exit)) ≡ take end (id ∷ now (ids .entry))) × (length (now (ids .exit)) ≡ 1024) ⌝ }
-{
-    let mut i = 0;
-    let mut before = id;
-    while i < end {
-        let here = ids[i];
-        ids[i] = before;
-        before = here;
-        i += 1;
-    }
-}
-
-// Takes the first id away, and puts the `end` ids after it one place down.
-fn take_first(ids: &mut [u32; 1024], end: usize)
-    requires { ⌜ (end < 1024) × (length (now ids) ≡ 1024) ⌝ }
-    ensures { λ _. ⌜ (take end (now (ids .exit)) ≡ take end (drop 1 (now (ids .entry)))) × (length (now (ids .exit)) ≡ 1024) ⌝ }
-{
-    let mut i = 0;
-    while i < end {
-        let next = ids[i + 1];
-        ids[i] = next;
-        i += 1;
-    }
-}
-
-// One more than `len`, at most 1,024.
-fn one_longer(len: usize) -> usize
-    ensures { λ r. ⌜ r ≡ min (len + 1) 1024 ⌝ }
-{
-    if len < 1024 { len + 1 } else { 1024 }
-}
-
-// Whether a root is there.
-fn is_rooted(root: Root) -> bool
-    ensures { λ r. ⌜ r ≡ isRooted root ⌝ }
-{
-    match root {
-        Root::At { root: _, links: _ } => true,
-        Root::NoRoot => false,
-    }
-}
-
-// The root of a child, by its parent's: a link more, and none past 1,024.
-fn root_below(root: Root) -> Root
-    ensures { λ r. ⌜ r ≡ rootBelow root ⌝ }
-{
-    let Root::At { root: top, links } = root else {
-        return Root::NoRoot;
-    };
-    if links < 1024 {
-        return Root::At {
-            root: top,
-            links: links + 1,
-        };
-    }
-    Root::NoRoot
-}
-
-// A root with this number of links to it, where a root is there.
-fn with_links(root: Root, links: u32) -> Root
-    ensures { λ r. ⌜ r ≡ withLinks root links ⌝ }
-{
-    match root {
-        Root::At {
-            root: top,
-            links: _,
-        } => Root::At { root: top, links },
-        Root::NoRoot => Root::NoRoot,
-    }
-}
-
-// The line of `id`, by a walk of its chain; `near` is a place near its own in the table.
-pub fn line_of(
-    book: &[u8],
-    start: usize,
-    count: usize,
-    near: usize,
-    id: u32,
-    ids: &mut [u32; 1024],
-) -> Line
-    requires { ⌜ Rising wordsTable (now book) start count × (near ≤ count) ⌝ }
-    ensures lined { λ r. ⌜ Lined (wordsFrom (now (book .entry)) count start) (now (ids .exit)) r ⌝ }
-    ensures same { λ r. ⌜ (r .id ≡ id) × (r .near ≤ count) ⌝ }
-{
-    let above = ancestors_of(book, start, count, id);
-    let all = above.ids;
-    *ids = all;
-    let root = above.root;
-    Line {
-        id,
-        len: above.len,
-        root,
-        near,
-    }
-}
-
-// The line of `id`, whose parent is `p`, from that of another snapshot: where this is the parent, it is put first, and where the parent is the
-// other's too, the ids are the same.
-fn line_under(
-    book: &[u8],
-    start: usize,
-    count: usize,
-    line: Line,
-    near: usize,
-    id: u32,
-    p: u32,
-    ids: &mut [u32; 1024],
-) -> Line
-    requires { ⌜ Rising wordsTable (now book) start count × Lined (wordsFrom (now book) count start) (now ids) line × (near ≤ count) ⌝ }
-    requires { ⌜ (lookup id (wordsFrom (now book) count start) ≡ some p) × (0 < p) ⌝ }
-    ensures lined { λ r. ⌜ Lined (wordsFrom (now (book .entry)) count start) (now (ids .exit)) r ⌝ }
-    ensures same { λ r. ⌜ (r .id ≡ id) × (r .near ≤ count) ⌝ }
-{
-    let root = line.root;
-    if p == line.id {
-        let len = one_longer(line.len);
-        put_first(ids, len, p);
-        let root = root_below(root);
-        return Line {
-            id,
-            len,
-            root,
-            near,
-        };
-    }
-    let len = line.len;
-    if (0 < len) & (ids[0] == p) {
-        return Line {
-            id,
-            len,
-            root,
-            near,
-        };
-    }
-    line_of(book, start, count, near, id, ids)
-}
-
-// The line of `id` from that of another snapshot, by the parent of `id`.
-fn line_by_parent(
-    book: &[u8],
-    start: usize,
-    count: usize,
-    line: Line,
-    id: u32,
-    ids: &mut [u32; 1024],
-) -> Line
-    requires { ⌜ Rising wordsTable (now book) start count × Lined (wordsFrom (now book) count start) (now ids) line × (line .near ≤ count) ⌝ }
-    ensures lined { λ r. ⌜ Lined (wordsFrom (now (book .entry)) count start) (now (ids .exit)) r ⌝ }
-    ensures same { λ r. ⌜ (r .id ≡ id) × (r .near ≤ count) ⌝ }
-{
-    let found = parent_near(book, start, count, line.near, id);
-    let near = found.at;
-    let parent = found.word;
-    let MaybeU32::Is(p) = parent else {
-        return Line {
-            id,
-            len: 0,
-            root: Root::NoRoot,
-            near,
-        };
-    };
-    if p == 0 {
-        return Line {
-            id,
-            len: 0,
-            root: Root::At { root: id, links: 0 },
-            near,
-        };
-    }
-    line_under(book, start, count, line, near, id, p, ids)
-}
-
-// The line of `id` from that of another snapshot: of the same, or of a child with a root, from which the first id is taken away; else by the
-// parent of `id`.
-pub fn line_beside(
-    book: &[u8],
-    start: usize,
-    count: usize,
-    line: Line,
-    id: u32,
-    ids: &mut [u32; 1024],
-) -> Line
-    requires { ⌜ Rising wordsTable (now book) start count × Lined (wordsFrom (now book) count start) (now ids) line × (line .near ≤ count) ⌝ }
-    ensures lined { λ r. ⌜ Lined (wordsFrom (now (book .entry)) count start) (now (ids .exit)) r ⌝ }
-    ensures same { λ r. ⌜ (r .id ≡ id) × (r .near ≤ count) ⌝ }
-{
-    if id == line.id {
-        return line;
-    }
-    let root = line.root;
-    let rooted = is_rooted(root);
-    if (rooted & (0 < line.len)) & (ids[0] == id) {
-        let len = line.len - 1;
-        take_first(ids, len);
-        let root = with_links(root, len as u32);
-        return Line {
-            id,
-            len,
-            root,
-            near: line.near,
-        };
-    }
-    line_by_parent(book, start, count, line, id, ids)
 }

@@ -4,7 +4,7 @@ use Rattle.findings.proofs.Laws.{added-as, added-more}
 use Rattle.book.specs.Book.{bookOf}
 use Rattle.book.proofs.Walk.{parts}
 use Rattle.walk.specs.Keys.{keyAt}
-use Rattle.parents.proofs.Laws.{lined-few}
+use Rattle.ancestors.proofs.Laws.{lined-few}
 use Rattle.links.proofs.Words.{links-shown}
 use borrow.Author.Needs.{needs}
 use Rattle.links.proofs.show_links.Statement.{statement}

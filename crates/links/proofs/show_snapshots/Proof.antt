@@ -7,7 +7,7 @@ use Rattle.findings.proofs.Walk.{Begun, first, turn, last, each-none, begun-len
 use Rattle.book.specs.Book.{wordsFrom, keysFrom, bookOf}
 use Rattle.book.specs.Walk.{KeysFit}
 use Rattle.book.proofs.Walk.{parts, step, no-keys}
-use Rattle.parents.specs.Answers.{Lined}
+use Rattle.ancestors.specs.Lines.{Lined}
 use Rattle.walk.specs.Keys.{AtKey}
 use Rattle.walk.proofs.Gather.{at-key, at-end, key-next}
 use Rattle.snapshots.specs.Words.{holds}

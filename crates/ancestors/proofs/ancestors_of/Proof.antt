@@ -1,0 +1,35 @@
+-- `ancestors_of` meets its contract. The invariant: the array begins with the `len` ids on the way to `at`, the rest of it is zeros, and no
+-- root was passed. The measure is the room left.
+use borrow.Author.Needs.{needs}
+use native.Mathlib.Omega.{arith}
+use Prim.Native.Nat.{_-_, _≤_}
+use Rattle.book.specs.Book.{wordsFrom}
+use Rattle.ancestors.proofs.Walked.{Walked, walked-start, walked-more, walked-root, walked-absent, walked-full}
+use Rattle.ancestors.proofs.ancestors_of.Statement.{statement}
+use Rattle.ancestors.proofs.ancestors_of.Tie as tie
+
+abbrev Inv-loop : tie.InvT-loop
+Inv-loop book start count id ids₀ len₀ at₀ near₀ ids len at near = (near ≤ count) × Walked (wordsFrom book count start) id ids len at
+
+abbrev μ-loop : tie.MeasureT-loop
+μ-loop book start count id ids₀ len₀ at₀ near₀ ids len at near = 1024 - len
+
+pub ancestors-of-spec : {M : Type 1} → statement M
+ancestors-of-spec =
+    tie.close
+    (tie.spec
+    Inv-loop
+    μ-loop
+    (λ c. (omega arith, walked-start _ _))
+    (λ c κs. search needs)
+    (λ c. search needs)
+    (λ c. search needs)
+    (λ c. search walked-absent)
+    (λ c. search needs)
+    (λ c. search walked-root)
+    (λ c. search walked-full)
+    (λ c. search needs)
+    (λ c. search needs)
+    (λ c. search needs)
+    (λ c. search needs)
+    (λ c. (omega arith, search walked-more)))
