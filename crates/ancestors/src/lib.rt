@@ -51,28 +51,17 @@ pub fn ancestors_of(book: &[u8], start: usize, count: usize, id: u32) -> Ancesto
         near = found.at;
         let parent = found.word;
         let MaybeU32::Is(p) = parent else {
-            return Ancestors {
-                ids,
-                len,
-                root: Root::NoRoot,
-            };
+            let root = Root::NoRoot;
+            return Ancestors { ids, len, root };
         };
         if p == 0 {
-            return Ancestors {
-                ids,
-                len,
-                root: Root::At {
-                    root: at,
-                    links: len as u32,
-                },
-            };
+            let links = len as u32;
+            let root = Root::At { root: at, links };
+            return Ancestors { ids, len, root };
         }
         if len == 1024 {
-            return Ancestors {
-                ids,
-                len,
-                root: Root::NoRoot,
-            };
+            let root = Root::NoRoot;
+            return Ancestors { ids, len, root };
         }
         ids[len] = p;
         len += 1;

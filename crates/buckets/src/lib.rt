@@ -88,7 +88,7 @@ fn gen_at(
     n: usize,
 ) -> usize
     requires { ⌜ Rising gensTable (now book) start count × (i < 256) × (n < 2 ^ 62) ⌝ }
-    ensures found { λ r. ⌜ Added (now (out .entry)) n (genAt (gensFrom (now (book .entry)) count start) offset i recorded) r (now (out .exit)) ⌝ }
+    ensures added { λ r. ⌜ Added (now (out .entry)) n (genAt (gensFrom (now (book .entry)) count start) offset i recorded) r (now (out .exit)) ⌝ }
     ensures few { λ r. ⌜ r ≤ n + 1 ⌝ }
 {
     let bucket = offset % 0x100_0000_0000_0000 * 256 + (i as u64);
@@ -141,7 +141,7 @@ fn key_gens(
     n: usize,
 ) -> usize
     requires { ⌜ Opened (now book) h at × AtKey (now book) p f × (n < 2 ^ 62) ⌝ }
-    ensures found { λ r. ⌜ Added (now (out .entry)) n (gensOfKey (bookOf (now (book .entry)) .gens) (keyAt (now (book .entry)) p)) r (now (out .exit)) ⌝ }
+    ensures added { λ r. ⌜ Added (now (out .entry)) n (gensOfKey (bookOf (now (book .entry)) .gens) (keyAt (now (book .entry)) p)) r (now (out .exit)) ⌝ }
     ensures few { λ r. ⌜ r ≤ n + 256 ⌝ }
 {
     let start = p + 28;
@@ -178,7 +178,7 @@ fn take_gens(
     c: Counts,
 ) -> Counts
     requires { ⌜ Opened (now book) h at × AtKey (now book) p f × (c .found < 2 ^ 62) × (2 * c .put + 2 ≤ length (now work)) ⌝ }
-    ensures found { λ r. ⌜ Added (now (out .entry)) (c .found) (keyGens (h .device) (bookOf (now (book .entry)) .gens) (keyAt (now (book .entry)) p)) (r .found) (now (out .exit)) ⌝ }
+    ensures added { λ r. ⌜ Added (now (out .entry)) (c .found) (keyGens (h .device) (bookOf (now (book .entry)) .gens) (keyAt (now (book .entry)) p)) (r .found) (now (out .exit)) ⌝ }
     ensures put { λ r. ⌜ pairsOf (now (work .exit)) (r .put) ≡ pairsOf (now (work .entry)) (c .put) ++ coverPair (h .device) p (keyAt (now (book .entry)) p) ⌝ }
     ensures few { λ r. ⌜ (r .found ≤ c .found + 256) × (r .put ≤ c .put + 1) ⌝ }
 {
@@ -215,7 +215,7 @@ fn gens_of_keys(book: &[u8], h: Header, at: Places, out: &mut [u8], work: &mut [
 // What the entry of a gens table at byte p gives, where the first m pairs, which are sorted, are the offsets covered; n were found before.
 fn uncovered_at(book: &[u8], p: usize, work: &[u64], m: usize, out: &mut [u8], n: usize) -> usize
     requires { ⌜ (p + 9 ≤ length (now book)) × (2 * m ≤ length (now work)) × Sorted (pairsOf (now work) m) × (n < 2 ^ 62) ⌝ }
-    ensures found { λ r. ⌜ Added (now (out .entry)) n (notCovered (pairsOf (now (work .entry)) m) (entryAt gensTable (now (book .entry)) p .first) (entryAt gensTable (now (book .entry)) p .rest)) r (now (out .exit)) ⌝ }
+    ensures added { λ r. ⌜ Added (now (out .entry)) n (notCovered (pairsOf (now (work .entry)) m) (entryAt gensTable (now (book .entry)) p .first) (entryAt gensTable (now (book .entry)) p .rest)) r (now (out .exit)) ⌝ }
     ensures few { λ r. ⌜ r ≤ n + 1 ⌝ }
 {
     let bucket = bits::be64(book, p);
@@ -325,7 +325,7 @@ struct Range {
 }
 
 // The entries of an alloc table for the buckets from `from` up to `to`.
-fn find_range(book: &[u8], start: usize, count: usize, from: u64, to: u64) -> Range
+fn alloc_range(book: &[u8], start: usize, count: usize, from: u64, to: u64) -> Range
     requires { ⌜ Rising allocTable (now book) start count × (length (now book) ≤ 1048576) × (from ≤ to) ⌝ }
     ensures { λ r. ⌜ r ≡ rangeOf start (allocFrom (now (book .entry)) count start) from to ⌝ }
 {
@@ -335,17 +335,6 @@ fn find_range(book: &[u8], start: usize, count: usize, from: u64, to: u64) -> Ra
         start: start + low * 10,
         count: high - low,
     }
-}
-
-// The same, at once where the table has no entries.
-fn alloc_range(book: &[u8], start: usize, count: usize, from: u64, to: u64) -> Range
-    requires { ⌜ Rising allocTable (now book) start count × (length (now book) ≤ 1048576) × (from ≤ to) ⌝ }
-    ensures { λ r. ⌜ r ≡ rangeOf start (allocFrom (now (book .entry)) count start) from to ⌝ }
-{
-    if count == 0 {
-        return Range { start, count: 0 };
-    }
-    find_range(book, start, count, from, to)
 }
 
 // Whether a data type says that its bucket is in use.
@@ -420,7 +409,7 @@ fn show_set(
     n: usize,
 ) -> usize
     requires { ⌜ Opened (now book) h at × (start ≤ end) × (n < 2 ^ 62) ⌝ }
-    ensures found { λ r. ⌜ Added (now (out .entry)) n (setFindings (h .«first_bucket») start (usedBuckets (allocRange start end (bookOf (now (book .entry)) .alloc)))) r (now (out .exit)) ⌝ }
+    ensures added { λ r. ⌜ Added (now (out .entry)) n (setFindings (h .«first_bucket») start (usedBuckets (allocRange start end (bookOf (now (book .entry)) .alloc)))) r (now (out .exit)) ⌝ }
     ensures few { λ r. ⌜ r ≤ n + 1 ⌝ }
 {
     let range = alloc_range(book, at.alloc, h.alloc as usize, start, end);
@@ -441,7 +430,7 @@ fn show_set(
 // What the run with the head k gives, after n findings.
 fn show_run(book: &[u8], h: Header, at: Places, k: KeyHead, out: &mut [u8], n: usize) -> usize
     requires { ⌜ Opened (now book) h at × (n < 2 ^ 62) ⌝ }
-    ensures found { λ r. ⌜ Added (now (out .entry)) n (runFindings (bookOf (now (book .entry))) (keyOf (now (book .entry)) k)) r (now (out .exit)) ⌝ }
+    ensures added { λ r. ⌜ Added (now (out .entry)) n (runFindings (bookOf (now (book .entry))) (keyOf (now (book .entry)) k)) r (now (out .exit)) ⌝ }
     ensures few { λ r. ⌜ r ≤ n + 1 ⌝ }
 {
     let size = k.size as u64;
@@ -463,7 +452,7 @@ fn take_run(
     c: Counts,
 ) -> Counts
     requires { ⌜ Opened (now book) h at × AtKey (now book) p f × (c .found < 2 ^ 62) × (2 * c .put + 2 ≤ length (now work)) ⌝ }
-    ensures found { λ r. ⌜ Added (now (out .entry)) (c .found) (only (isRun (keyAt (now (book .entry)) p)) (runFindings (bookOf (now (book .entry))) (keyAt (now (book .entry)) p))) (r .found) (now (out .exit)) ⌝ }
+    ensures added { λ r. ⌜ Added (now (out .entry)) (c .found) (only (isRun (keyAt (now (book .entry)) p)) (runFindings (bookOf (now (book .entry))) (keyAt (now (book .entry)) p))) (r .found) (now (out .exit)) ⌝ }
     ensures put { λ r. ⌜ pairsOf (now (work .exit)) (r .put) ≡ pairsOf (now (work .entry)) (c .put) ++ runPair (bookOf (now (book .entry))) p (keyAt (now (book .entry)) p) ⌝ }
     ensures few { λ r. ⌜ (r .found ≤ c .found + 1) × (r .put ≤ c .put + 1) ⌝ }
 {
@@ -498,7 +487,7 @@ fn take_runs(book: &[u8], h: Header, at: Places, out: &mut [u8], work: &mut [u64
 // What the alloc entry e gives in a gap of which the buckets up to `at` are passed, after n findings.
 fn show_entry(e: AllocEntry, at: u64, out: &mut [u8], n: usize) -> usize
     requires { ⌜ n < 2 ^ 62 ⌝ }
-    ensures found { λ r. ⌜ Added (now (out .entry)) n (entryFindings at e) r (now (out .exit)) ⌝ }
+    ensures added { λ r. ⌜ Added (now (out .entry)) n (entryFindings at e) r (now (out .exit)) ⌝ }
     ensures few { λ r. ⌜ r ≤ n + 2 ⌝ }
 {
     let data_type = e.data_type;
@@ -534,26 +523,7 @@ fn show_entries(
     emit_if(out, n, at < to, 50, at, to)
 }
 
-// What the buckets from `from` up to `to`, which no run holds, give after n findings.
-fn show_hole(
-    book: &[u8],
-    h: Header,
-    at: Places,
-    from: u64,
-    to: u64,
-    out: &mut [u8],
-    n: usize,
-) -> usize
-    requires { ⌜ Opened (now book) h at × (n < 2 ^ 62) × (from < to) ⌝ }
-    ensures found { λ r. ⌜ Added (now (out .entry)) n (gapOf (bookOf (now (book .entry)) .alloc) from to) r (now (out .exit)) ⌝ }
-    ensures few { λ r. ⌜ r ≤ n + 1 + 2 * (lowerBound to (bookOf (now (book .entry)) .alloc) - lowerBound from (bookOf (now (book .entry)) .alloc)) ⌝ }
-{
-    let range = alloc_range(book, at.alloc, h.alloc as usize, from, to);
-    let rest = start_of(out.len(), n);
-    n + show_entries(book, range.start, range.count, from, to, &mut out[rest..])
-}
-
-// The same: nothing if there are none.
+// What the buckets from `from` up to `to`, which no run holds, give after n findings: nothing if there are none.
 fn show_gap(
     book: &[u8],
     h: Header,
@@ -564,13 +534,15 @@ fn show_gap(
     n: usize,
 ) -> usize
     requires { ⌜ Opened (now book) h at × (n < 2 ^ 62) ⌝ }
-    ensures found { λ r. ⌜ Added (now (out .entry)) n (gapOf (bookOf (now (book .entry)) .alloc) from to) r (now (out .exit)) ⌝ }
+    ensures added { λ r. ⌜ Added (now (out .entry)) n (gapOf (bookOf (now (book .entry)) .alloc) from to) r (now (out .exit)) ⌝ }
     ensures few { λ r. ⌜ r ≤ n + 1 + 2 * (lowerBound to (bookOf (now (book .entry)) .alloc) - lowerBound from (bookOf (now (book .entry)) .alloc)) ⌝ }
 {
-    if from < to {
-        return show_hole(book, h, at, from, to, out, n);
+    if to <= from {
+        return n;
     }
-    n
+    let range = alloc_range(book, at.alloc, h.alloc as usize, from, to);
+    let rest = start_of(out.len(), n);
+    n + show_entries(book, range.start, range.count, from, to, &mut out[rest..])
 }
 
 // What the gaps between the runs give: the first m pairs, which are sorted.
