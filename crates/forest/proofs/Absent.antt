@@ -83,6 +83,11 @@ unfolding isThe
 is-some x none = ((λ e. absurd (true≢false (sym e))), (λ e. let z : _≡_ {A = ℕ} 0 1 = cc in absurd (omega arith)))
 is-some x (some y) = ((λ e. ap some (eqb-true y x e)), (λ e. eq-eqb y x (Option·some-injective y x e)))
 
+pub no-root : (t : Option (ℕ × ℕ)) → namesRoot t none ≡ false
+unfolding namesRoot
+no-root none = refl
+no-root (some x) = refl
+
 pub names-root : (t r : Option (ℕ × ℕ)) → namesRoot t r ≡ true → (x : ℕ × ℕ) × (y : ℕ × ℕ) × (t ≡ some x) × (r ≡ some y) × (x .1 ≡ y .0)
 unfolding namesRoot
 names-root none r e = absurd (true≢false (sym e))

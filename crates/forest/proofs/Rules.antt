@@ -2,7 +2,7 @@
 use Prim.Native.Nat.{ℕ}
 use mathlib.Core.Bool.{Bool, true, false, not}
 use mathlib.Core.Logic.{_⊎_, inl, inr, _↔_}
-use mathlib.Core.List.{List, _∷_, _++_, List·Memᴰ·head, List·Memᴰ·tail, List·Memᴰ·cases-cons}
+use mathlib.Core.List.{List, _∷_, _++_, List·Memᴰ·head, List·Memᴰ·tail, List·Memᴰ·cases-cons, Memᴰ·append-right}
 use mathlib.Core.Option.{Option, none, some, Option·some-injective}
 use mathlib.Core.Path.{_≡_, refl, ap, sym, subst, _∙_}
 use native.Mathlib.Omega.{arith}
@@ -18,10 +18,11 @@ use Rattle.links.specs.SnapshotLinks.{treeMap, treeOfMap, isThe, isOther, maste
 use Rattle.forest.specs.Lists.{_∈_}
 use Rattle.forest.specs.Forest.{snapshots, ForestBook, Links, InChain, RootedRight, NamedBack, NamesChild, NamesChain, Sound, forestKinds, Absent}
 use Rattle.forest.proofs.Reading.{recordWords, id-same, all-snapshots, parents-read, trees-of-read, trees-read, trees-mem}
+use Rattle.forest.proofs.Lists.{mem-each}
 use Rattle.forest.proofs.Maps.{lookup-mem}
 use Rattle.forest.proofs.Roots.{linksUp, above-up}
 use Rattle.forest.proofs.Chains.{root-found, found-root, up-ancestor, ancestor-up}
-use Rattle.forest.proofs.Absent.{has-true, true-has, absent-append, absent-each, absent-when, absent-other, is-some, names-root, depth-right, zero-or, none-bad}
+use Rattle.forest.proofs.Absent.{has-true, true-has, absent-append, absent-each, absent-when, absent-other, is-some, no-root, names-root, depth-right, zero-or, none-bad}
 
 -- the forest kinds, by name
 in39 : 39 ∈ forestKinds
@@ -232,6 +233,16 @@ module _ (b : Book) (F : ForestBook b) where
     where
       trees : List Finding
       trees = each (λ _ e. treeFindings b e) 0 (treeMap b)
+
+  -- "In a forest book a snapshot without a root always gives kind 41 or 42, whatever its other words hold": it gives 41
+  pub rootless : (s : Bkey) → s ∈ snapshots b → rootOf (parentsOf b) (s .offset) ≡ none → finding 41 (s .offset) (treeWord s) ∈ snapshotLinks b
+  unfolding rootFindings when snapshotFindings
+  rootless s m e =
+      subst (λ (l : List Finding). finding 41 (s .offset) (treeWord s) ∈ l) (sym links-are)
+      (Memᴰ·append-right (each (λ _ t. treeFindings b t) 0 (treeMap b))
+      (mem-each (linkFindings b) 0 (snapshots b) s _ m
+      (subst (λ (l : List Finding). finding 41 (s .offset) (treeWord s) ∈ l) (sym (key-findings s m))
+      (rw (e, no-root (lookup (treeWord s) (treeMap b))) (List·Memᴰ·head refl)))))
 
   pub links-sound : Absent (snapshotLinks b) ↔ Sound b
   links-sound = (there, back)

@@ -2,14 +2,17 @@
 use Prim.Native.Nat.{ℕ, _<_}
 use mathlib.Core.Bool.{Bool, true, false, true≢false, not, _&&_, _||_}
 use mathlib.Core.Logic.{_↔_, ⊎-elim}
-use mathlib.Core.List.{List, [], _∷_, _++_, List·Memᴰ·append-cases}
+use mathlib.Core.List.{List, [], _∷_, _++_, List·Memᴰ·append-cases, Memᴰ·append-left, Memᴰ·append-right}
+use mathlib.Core.Option.{none}
 use mathlib.Core.Path.{_≡_, refl, ap, sym, _∙_}
 use native.Mathlib.Omega.{arith}
 use lib.Dec.{eqb, ltb}
 use borrow.Author.Tests.{eqb-true, ltb-true}
-use Rattle.findings.specs.Findings.{Finding, each}
+use Rattle.findings.specs.Findings.{Finding, finding, each}
 use Rattle.pairs.specs.Pairs.{has}
-use Rattle.book.specs.Book.{Book}
+use Rattle.book.specs.Book.{Bkey, Book, parentsOf}
+use Rattle.parents.specs.Roots.{rootOf}
+use Rattle.snapshots.specs.Words.{treeWord}
 use Rattle.subvolumes.specs.SubvolumeStates.{subvolumeStates}
 use Rattle.subvolumes.specs.SnapshotClaims.{snapshotClaims}
 use Rattle.deletions.specs.SnapshotStates.{snapshotStates}
@@ -19,8 +22,9 @@ use Rattle.links.specs.SnapshotLinks.{snapshotLinks}
 use Rattle.buckets.specs.BucketGensAgainstAlloc.{bucketGensAgainstAlloc}
 use Rattle.buckets.specs.FreeSpace.{freeSpace}
 use Rattle.forest.specs.Lists.{_∈_}
-use Rattle.forest.specs.Forest.{ForestBook, forestKinds, Absent, Demand3}
+use Rattle.forest.specs.Forest.{snapshots, ForestBook, forestKinds, Absent, Demand3}
 use Rattle.forest.proofs.Absent.{absent-append, absent-kinds}
+use Rattle.forest.proofs.Rules.{rootless}
 use Rattle.forest.proofs.Theorem.{forest}
 use Rattle.rules.specs.Rules.{keyFindings, findingsOf}
 use Rattle.rules.specs.Kinds.{Within, apart}
@@ -68,6 +72,17 @@ demand-3 b F = forest b F (findingsOf b) (links-alone b)
 -- and on every list that has a forest kind exactly where that has one
 pub demand-3-of : (b : Book) → ForestBook b → (fs : List Finding) → (Absent fs ↔ Absent (findingsOf b)) → Demand3 b fs
 demand-3-of b F fs same = forest b F fs ((λ a. links-alone b .0 (same .0 a)), (λ a. same .1 (links-alone b .1 a)))
+
+-- "In a forest book a snapshot without a root always gives kind 41 or 42, whatever its other words hold": it gives 41
+pub rootless-found : (b : Book) → ForestBook b → (s : Bkey) → s ∈ snapshots b → rootOf (parentsOf b) (s .offset) ≡ none → finding 41 (s .offset) (treeWord s) ∈ findingsOf b
+unfolding findingsOf
+rootless-found b F s m e =
+    Memᴰ·append-right (each (keyFindings b) 0 (b .keys))
+    (Memᴰ·append-right (subvolumeStates b)
+    (Memᴰ·append-right (snapshotClaims b)
+    (Memᴰ·append-right (snapshotStates b)
+    (Memᴰ·append-right (snapshotSubvolFlags b)
+    (Memᴰ·append-right (subvolumeChildren b) (Memᴰ·append-left (bucketGensAgainstAlloc b ++ freeSpace b) (rootless b F s m e)))))))
 
 -- every kind is below 256, so that it is the first byte of its finding
 pub record Small (fs : List Finding) : Type 0 where
