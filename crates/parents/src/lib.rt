@@ -12,7 +12,7 @@ ghost use Rattle.parents.specs.Roots.{rootOf};
 ghost use Rattle.parents.specs.Answers.{rootIs, ancestorsOf, Lined};
 ghost use Rattle.parents.specs.Steps.{isRooted, withLinks, rootBelow};
 use book::MaybeU32;
-use book::WordAt;
+use tables::WordAt;
 
 // A view onto the parents table of a lent book.
 pub struct Parents<'a> {
@@ -62,7 +62,7 @@ pub fn get<'a>(v: Parents<'a>, id: u32) -> MaybeU32
     requires { ⌜ Rising wordsTable (now (v .book)) (v .start) (v .count) ⌝ }
     ensures { λ r. ⌜ r ≡ maybeU32 (lookup id (wordsFrom (now (v .entry .book)) (v .entry .count) (v .entry .start))) ⌝ }
 {
-    book::find_word(v.book, v.start, v.count, id)
+    tables::find_word(v.book, v.start, v.count, id)
 }
 
 // The same from the place `near` on, with the place of `id`.
@@ -70,7 +70,7 @@ pub fn get_near<'a>(v: Parents<'a>, near: usize, id: u32) -> WordAt
     requires { ⌜ Rising wordsTable (now (v .book)) (v .start) (v .count) × (near ≤ v .count) ⌝ }
     ensures { λ r. ⌜ (r .word ≡ maybeU32 (lookup id (wordsFrom (now (v .entry .book)) (v .entry .count) (v .entry .start)))) × (r .at ≤ v .entry .count) ⌝ }
 {
-    book::find_word_near(v.book, v.start, v.count, near, id)
+    tables::find_word_near(v.book, v.start, v.count, near, id)
 }
 
 // The parent that the table gives `id`, for callers that hold no view: one is made and consulted here.
