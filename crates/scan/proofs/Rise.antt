@@ -30,7 +30,7 @@ module _ (s : List ℕ) where
   word p = entryAt wordsTable s p .first
 
   -- the first of n entries, and those after it
-  pub rise-step : (n p : ℕ) → 0 < n → wordsRise s n p ≡ ltb (word p) (word (p + 8)) && wordsRise s (n - 1) (p + 8)
+  rise-step : (n p : ℕ) → 0 < n → wordsRise s n p ≡ ltb (word p) (word (p + 8)) && wordsRise s (n - 1) (p + 8)
   unfolding wordsRise
   rise-step zero p h = absurd (omega arith)
   rise-step (suc n) p h = let e : suc n - 1 ≡ n = omega arith in rw e
