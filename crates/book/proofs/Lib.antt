@@ -1,6 +1,5 @@
 pub mod Laws
 pub mod Maps
-mod Rise
 pub mod Tables
 pub mod Walk
 mod Examples

@@ -2,4 +2,3 @@ pub mod Maps
 pub mod Book
 pub mod Refusals
 pub mod Walk
-pub mod Steps

@@ -1,6 +1,7 @@
--- What the functions over an accepted book ask of it: the keys lie within it, and the tables rise.
-use Prim.Native.Nat.{ℕ, zero, suc, _+_, _*_, _≤_, _<_}
+-- What the functions over a book ask of it: a table has a form that can be read, the keys lie within the book, and the tables rise.
+use Prim.Native.Nat.{ℕ, zero, suc, _+_, _*_, _%_, _≤_, _<_}
 use mathlib.Core.Path.{_≡_}
+use mathlib.Core.Bool.{true}
 use mathlib.Core.List.{List}
 use mathlib.Core.Option.{Option, none, some}
 use lib.ListN.{length}
@@ -29,6 +30,15 @@ pub record Opened (s : List ℕ) (h : Header) (at : Places) : Type 0 where
 unfoldable pub KeysFit : List ℕ → ℕ → ℕ → Type 0
 KeysFit s zero p = Unit {0}
 KeysFit s (suc n) p = (keyEnd s p ≤ length s) × KeysFit s n (keyEnd s p)
+
+-- a table whose first field is a word of 32 or 64 bits, and that only as an alloc table has types: each of the four is
+pub record Readable (t : Table) : Type 0 where
+  pub least : 32 ≤ t .first
+  pub most : t .first ≤ 64
+  pub words : t .first % 32 ≡ 0
+  pub inside : t .first ≤ 8 * t .size
+  pub rest : 8 * t .size ≤ t .first + 64
+  pub typed : t .typed ≡ true → (t .first ≡ 64) × (t .size ≡ 10)
 
 -- the first field of entry i of a table that starts at byte start
 abbrev pub firstAt : Table → List ℕ → ℕ → ℕ → ℕ

@@ -69,7 +69,7 @@ fn generation(book: &[u8], start: usize, count: usize, bucket: u64) -> u8
     requires { ⌜ Rising gensTable (now book) start count ⌝ }
     ensures { λ r. ⌜ r ≡ orZero (lookup bucket (gensFrom (now (book .entry)) count start)) ⌝ }
 {
-    let found = book::find_gen(book, start, count, bucket);
+    let found = tables::find_gen(book, start, count, bucket);
     match found {
         MaybeU8::Is(generation) => generation,
         MaybeU8::Absent => 0,
@@ -329,8 +329,8 @@ fn alloc_range(book: &[u8], start: usize, count: usize, from: u64, to: u64) -> R
     requires { ⌜ Rising allocTable (now book) start count × (length (now book) ≤ 1048576) × (from ≤ to) ⌝ }
     ensures { λ r. ⌜ r ≡ rangeOf start (allocFrom (now (book .entry)) count start) from to ⌝ }
 {
-    let low = book::alloc_from(book, start, count, from);
-    let high = book::alloc_from(book, start, count, to);
+    let low = tables::alloc_from(book, start, count, from);
+    let high = tables::alloc_from(book, start, count, to);
     Range {
         start: start + low * 10,
         count: high - low,
@@ -392,7 +392,7 @@ fn used_among(book: &[u8], start: usize, count: usize, none: u64) -> Used
     let mut left = count;
     while 0 < left {
         left -= 1;
-        let e = book::alloc_entry(book, start + left * 10);
+        let e = tables::alloc_entry(book, start + left * 10);
         u = with_entry(e, u);
     }
     u
@@ -514,7 +514,7 @@ fn show_entries(
     let mut left = count;
     let mut p = start;
     while 0 < left {
-        let e = book::alloc_entry(book, p);
+        let e = tables::alloc_entry(book, p);
         n = show_entry(e, at, out, n);
         at = e.bucket + 1;
         p += 10;

@@ -111,7 +111,7 @@ pub fn check(book: &[u8], findings: &mut [u8], work: &mut [u64]) -> Checked
     ensures work { λ _. ⌜ now (work .exit) ≡ workAfter (parse (now (book .entry))) (now (work .entry)) ⌝ }
     ensures few { λ r. ⌜ checkedAnswer r .count < 2 ^ 32 ⌝ }
 {
-    let s = book::scan(book);
+    let s = scan::scan(book);
     match s {
         Scanned::Accepted { header, places } => check_book(book, header, places, findings, work),
         Scanned::Refused(number, place) => Checked::Refused(number, place),
@@ -134,7 +134,7 @@ fn root_above(book: &[u8], h: Header, at: Places, id: u32) -> Ancestor
 pub fn ask_ancestor(book: &[u8], id: u32) -> Ancestor
     ensures { λ r. ⌜ r ≡ ancestorOf (parse (now (book .entry))) id ⌝ }
 {
-    let s = book::scan(book);
+    let s = scan::scan(book);
     match s {
         Scanned::Accepted { header, places } => root_above(book, header, places, id),
         Scanned::Refused(number, place) => Ancestor::Refused(number, place),
@@ -156,7 +156,7 @@ fn is_available(book: &[u8], h: Header, at: Places, id: u32) -> Availability
 pub fn ask_available(book: &[u8], id: u32) -> Availability
     ensures { λ r. ⌜ r ≡ availabilityOf (parse (now (book .entry))) id ⌝ }
 {
-    let s = book::scan(book);
+    let s = scan::scan(book);
     match s {
         Scanned::Accepted { header, places } => is_available(book, header, places, id),
         Scanned::Refused(number, place) => Availability::Refused(number, place),

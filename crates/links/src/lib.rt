@@ -103,7 +103,9 @@ fn snapshot_of(book: &[u8], h: Header, at: Places, id: u32) -> MaybeU32
     requires { ⌜ Opened (now book) h at ⌝ }
     ensures { λ r. ⌜ r ≡ maybeU32 (lookup id (bookOf (now (book .entry)) .subvolumes)) ⌝ }
 {
-    book::find_word(book, at.subvolumes, h.subvolumes as usize, id)
+    let count = h.subvolumes as usize;
+    let found = tables::find_word(book, at.subvolumes, count, count, id);
+    found.word
 }
 
 // Whether a child is there that does not have this snapshot as its parent.

@@ -7,7 +7,7 @@ ghost use Rattle.book.specs.Walk.{Rising, maybeU32};
 ghost use Rattle.parents.specs.Roots.{rootOf};
 ghost use Rattle.parents.specs.Chains.{rootIs};
 use book::MaybeU32;
-use book::WordAt;
+use tables::WordAt;
 
 // A view onto the parents table of a lent book.
 pub struct Parents<'a> {
@@ -35,7 +35,7 @@ pub fn get<'a>(v: Parents<'a>, near: usize, id: u32) -> WordAt
     requires { ⌜ Rising wordsTable (now (v .book)) (v .start) (v .count) × (near ≤ v .count) ⌝ }
     ensures { λ r. ⌜ (r .word ≡ maybeU32 (lookup id (wordsFrom (now (v .entry .book)) (v .entry .count) (v .entry .start)))) × (r .at ≤ v .entry .count) ⌝ }
 {
-    book::find_word_near(v.book, v.start, v.count, near, id)
+    tables::find_word(v.book, v.start, v.count, near, id)
 }
 
 // The same, for callers that hold no view: one is made and consulted here.

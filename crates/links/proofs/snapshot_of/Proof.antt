@@ -1,6 +1,7 @@
 -- The table of the book.
 use Rattle.book.proofs.Walk.{parts}
 use borrow.Author.Needs.{needs}
+use native.Mathlib.Omega.{arith}
 use Rattle.links.proofs.snapshot_of.Statement.{statement}
 use Rattle.links.proofs.snapshot_of.Tie as tie
 
@@ -9,5 +10,5 @@ snapshot-of-spec =
     tie.close
     (tie.spec
     (λ c. search needs)
-    (λ c κs. parts (c .before .before .pre) .subvolumes-rise)
-    (λ c. rw (parts (c .before .before .before .pre) .subvolumes) (c .find-word .ensures)))
+    (λ c κs. (parts (c .before .before .pre) .subvolumes-rise, omega arith))
+    (λ c. rw (parts (c .before .before .before .pre) .subvolumes) (c .find-word .ensures .0)))

@@ -1,4 +1,4 @@
--- `parents::get` meets its contract: a walk of its MIR, by hand. The view is taken apart, and `find_word_near` is called on the slice and the numbers. All that the proof knows of `find_word_near` is that it meets its contract.
+-- `parents::get` meets its contract: a walk of its MIR, by hand. The view is taken apart, and `find_word` is called on the slice and the numbers. All that the proof knows of `find_word` is that it meets its contract.
 -- The view is Copy: what it owns is had twice, one copy is kept whole for the exit, and of the other what book owns goes to the callee, beside the lifetime's token, which comes back.
 use mathlib.Core.Path.{_≡_, refl}
 use Prim.Native.Nat.{ℕ, _≤_, _<_, _^_}
@@ -45,15 +45,15 @@ use Rattle.book.specs.Maps.{lookup}
 use Rattle.book.specs.Book.{wordsTable, wordsFrom}
 use Rattle.book.specs.Walk.{Rising, maybeU32}
 use Rattle.parents.specs.declared.Parents.{Parents}
-use Rattle.book.specs.declared.WordAt.{WordAt}
+use Rattle.tables.specs.declared.WordAt.{WordAt}
 use Rattle.parents.proofs.Parents as T
 use Rattle.parents.proofs.Parents.Laws as T′
-use Rattle.book.proofs.WordAt as S
-use Rattle.book.proofs.WordAt.Laws as S′
-use Rattle.book.proofs.find_word_near as find
-use Rattle.book.proofs.find_word_near.Symbol as find-def
-use Rattle.book.proofs.find_word_near.Symbol.{name as #book·find-word-near}
-use Rattle.book.proofs.find_word_near.Met as find-thm
+use Rattle.tables.proofs.WordAt as S
+use Rattle.tables.proofs.WordAt.Laws as S′
+use Rattle.tables.proofs.find_word as find
+use Rattle.tables.proofs.find_word.Symbol as find-def
+use Rattle.tables.proofs.find_word.Symbol.{name as #tables·find-word}
+use Rattle.tables.proofs.find_word.Met as find-thm
 use Rattle.parents.proofs.get.Key.{name as #parents·get}
 use Rattle.parents.proofs.get as get
 use Rattle.parents.proofs.get.Statement as stated
@@ -138,7 +138,7 @@ module _ {M : Type 1} (𝓤 : URA M) (H : Heap 𝓤) (A : Atoms 𝓤) (W : Given
       suffices ! _ (ends-at 𝓤 H A get.ended stayed (get.clauses 𝓤 H A mem run) W (((κ, tt), (q, tt), tt, args, vals), tt) u r (tt, (tt, (tt, tt))) (tt, (tt, (tt, tt)))) $ says ! e $
       move ! (1 ∷ []) $ frame ! $ nothing ! $ owned ! u32 (Is u32) (uint-makes 𝓤 H A W w32) n _ (refl, n-fits) $ fjoin ! $ owned ! usize (Is usize) (uint-makes 𝓤 H A W w64) m _ (refl, m-fits) $ fjoin ! $ move ! (2 ∷ 0 ∷ []) $ fjoin ! $ frame ! $ done !
 
-  module _ (C : Calls 𝓤 H) (Λ : Loops 𝓤 H) (fm : FmC 𝓤 H (W .laws) C) (known : Triple 𝓤 (C #book·find-word-near) (Find 𝓤 H A mem run)) where
+  module _ (C : Calls 𝓤 H) (Λ : Loops 𝓤 H) (fm : FmC 𝓤 H (W .laws) C) (known : Triple 𝓤 (C #tables·find-word) (Find 𝓤 H A mem run)) where
     walk : Holds (hasTy (T′.mir (named 0)) mach) × WT mach → ent 𝓤 (onEntry 𝓤 H A get.signature (κ, tt) (q, tt) args vals) (WpFn 𝓤 H C Λ code.function (mach ∷ vint w64 m ∷ vint w32 n ∷ []) Post)
     walk wt =
         qed W (raw (onEntry 𝓤 H A get.signature (κ, tt) (q, tt) args vals) ∷ []) ∵ enter ! C Λ code.function (mach ∷ vint w64 m ∷ vint w32 n ∷ []) _ $
@@ -163,7 +163,7 @@ module _ {M : Type 1} (𝓤 : URA M) (H : Heap 𝓤) (A : Atoms 𝓤) (W : Given
         move ! (5 ∷ 6 ∷ []) $ free1 ! $ move ! (3 ∷ 4 ∷ []) $ free1 ! $ free0 ! $ by ! (exits r u e))))))))))))
 
 module _ {M : Type 1} (𝓤 : URA M) (H : Heap 𝓤) (A : Atoms 𝓤) (W : Given 𝓤 H A) (mem : Memory → SProp 𝓤) (run : Routine → Fun 𝓤) where
-  get-walks : (C : Calls 𝓤 H) (Λ : Loops 𝓤 H) → FmC 𝓤 H (W .laws) C → Triple 𝓤 (C #book·find-word-near) (Find 𝓤 H A mem run)
+  get-walks : (C : Calls 𝓤 H) (Λ : Loops 𝓤 H) → FmC 𝓤 H (W .laws) C → Triple 𝓤 (C #tables·find-word) (Find 𝓤 H A mem run)
       → Walks 𝓤 H A get.ended stayed (WpFn 𝓤 H C Λ code.function) (get.clauses 𝓤 H A mem run)
   get-walks C Λ fm known = walked 𝓤 H A get.ended stayed (get.clauses 𝓤 H A mem run) (WpFn 𝓤 H C Λ code.function)
       (λ κs. (LL.vals (T.the-type (namedLft 1 0 tt κs)) (T′.the-laws (namedLft 1 0 tt κs)), (uint-vals w64, (uint-vals w32, tt))))
@@ -172,7 +172,7 @@ module _ {M : Type 1} (𝓤 : URA M) (H : Heap 𝓤) (A : Atoms 𝓤) (W : Given
       walk 𝓤 H A W mem run (κs .0) (qs .0) (a .0) (a .1 .0) (a .1 .1 .0) (are .1 .0 .1) (are .1 .1 .0 .1) table C Λ fm known (LL.lawful (T.the-type (namedLft 1 0 tt κs)) (T′.the-laws (namedLft 1 0 tt κs)) 𝓤 H A W .typed (a .0) _ (are .0) .0)))
 
 get-meets : {M : Type 1} (𝓤 : URA M) (H : Heap 𝓤) (A : Atoms 𝓤) (W : Given 𝓤 H A) (mem : Memory → SProp 𝓤) (run : Routine → Fun 𝓤) (𝓣 : Tables 𝓤 H)
-    → Triple 𝓤 (𝓣 .C #book·find-word-near) (Find 𝓤 H A mem run)
+    → Triple 𝓤 (𝓣 .C #tables·find-word) (Find 𝓤 H A mem run)
     → Meets 𝓤 H A get.signature (WpFn 𝓤 H (𝓣 .C) (𝓣 .Λ) code.function) (get.spec 𝓤 H A mem run)
 get-meets 𝓤 H A W mem run 𝓣 known = walk-meets 𝓤 H A get.ended stayed W (goes-none 𝓤 H A W 1 B yes (λ κs x f. refl), (goes-none 𝓤 H A W 1 (λ _. usize) yes (λ κs x f. refl), (goes-none 𝓤 H A W 1 (λ _. u32) yes (λ κs x f. refl), tt))) (get.clauses 𝓤 H A mem run) (WpFn 𝓤 H (𝓣 .C) (𝓣 .Λ) code.function) (WpFn-mono 𝓤 H (W .laws) 𝓣 code.function)
     (get-walks 𝓤 H A W mem run (𝓣 .C) (𝓣 .Λ) (fmOf 𝓤 H (W .laws) 𝓣) known)
@@ -183,4 +183,4 @@ get-spec 𝓤 H 𝓜 𝓖 𝓡 =
     entered 𝓤 H (tripleOf 𝓤 H (𝓖 .A) get.signature (get.spec 𝓤 H (𝓖 .A) (𝓜 .mem) (𝓡 .run)))
     (tables 𝓤 H 𝓜 𝓡 code.env .C) (tables 𝓤 H 𝓜 𝓡 code.env .Λ) #parents·get code.function (code.unfolded 𝓤 H 𝓜 𝓡)
     (get-meets 𝓤 H (𝓖 .A) (givenOf 𝓤 H 𝓜 𝓖) (𝓜 .mem) (𝓡 .run) (tablesOf 𝓤 H 𝓜 (tables 𝓤 H 𝓜 𝓡 code.env))
-    (cited 𝓤 H (Find 𝓤 H (𝓖 .A) (𝓜 .mem) (𝓡 .run)) 𝓜 𝓡 code.env #book·find-word-near find-def.routine code.calls-book·find-word-near (find-thm.met 𝓤 H 𝓜 𝓖 𝓡)))
+    (cited 𝓤 H (Find 𝓤 H (𝓖 .A) (𝓜 .mem) (𝓡 .run)) 𝓜 𝓡 code.env #tables·find-word find-def.routine code.calls-tables·find-word (find-thm.met 𝓤 H 𝓜 𝓖 𝓡)))

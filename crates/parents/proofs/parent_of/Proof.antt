@@ -40,12 +40,12 @@ use Rattle.book.specs.Maps.{lookup}
 use Rattle.book.specs.Book.{wordsTable, wordsFrom}
 use Rattle.book.specs.Walk.{Rising, maybeU32}
 use Rattle.parents.specs.declared.Parents.{Parents}
-use Rattle.book.specs.declared.WordAt.{WordAt}
+use Rattle.tables.specs.declared.WordAt.{WordAt}
 use Rattle.parents.proofs.Viewed.{Viewed, view-has, view-gives}
 use Rattle.parents.proofs.Parents as T
 use Rattle.parents.proofs.Parents.Laws as T′
-use Rattle.book.proofs.WordAt as S
-use Rattle.book.proofs.WordAt.Laws as S′
+use Rattle.tables.proofs.WordAt as S
+use Rattle.tables.proofs.WordAt.Laws as S′
 use Rattle.parents.proofs.view as view
 use Rattle.parents.proofs.view.Symbol as view-def
 use Rattle.parents.proofs.view.Symbol.{name as #parents·view}
