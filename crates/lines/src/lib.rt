@@ -80,7 +80,7 @@ pub fn echo(text: &[u8], first: u8) -> bool
 }
 
 // Reads a line of standard input and its newline, a byte at a time and as far as there is room; returns the number of bytes, which is 0 at the
-// end of the input. What is read is free, but for this: a newline is the last byte, and past the first byte that is not part of the line the buffer is as it was.
+// end of the input. Nothing is known of the bytes, but that a newline can only be the last; at most one byte past them is changed.
 pub fn read_line(line: &mut [u8]) -> usize
     ensures counts { λ r. ⌜ Counts r (now (line .exit)) ⌝ }
     ensures size { λ _. ⌜ length (now (line .exit)) ≡ length (now (line .entry)) ⌝ }

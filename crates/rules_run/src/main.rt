@@ -1,7 +1,7 @@
 // Judges the lines of standard input, rule by rule, and writes what is found.
 //
 // A line that starts with `=` names what judges the lines after it, by the letter at its byte 2:
-//   r  a book: `accepted`, if it is
+//   r  a book: `accepted`, if it is; so too for a letter that is not here
 //   f  a key of device 0: `check_key_device`, `check_key_fields`
 //   w  a key: `check_state_words`
 //   d  a book: `subvolume_states`, `snapshot_claims`, `snapshot_states`; then `unavailable` and those of the ids 0, 1, 2 and 4,294,967,295 that are
@@ -117,8 +117,8 @@ fn words() -> [u64; 256]
     [0; 256]
 }
 
-// Judges an accepted book. Each rule is lent the work words as the one before leaves them.
-fn judge_accepted(bytes: &[u8], h: Header, at: Places, letter: u8)
+// Judges an accepted book by rules. Each is lent the work words as the one before leaves them.
+fn judge_rules(bytes: &[u8], h: Header, at: Places, letter: u8)
     requires { ⌜ Opened (now bytes) h at ⌝ }
 {
     if 128 < h.keys {
@@ -131,7 +131,16 @@ fn judge_accepted(bytes: &[u8], h: Header, at: Places, letter: u8)
         b'd' => judge_deletions(bytes, h, at, &mut out, &mut work),
         b's' => judge_snapshots(bytes, h, at, &mut out, &mut work),
         b'l' => judge_links(bytes, h, at, &mut out, &mut work),
-        b'b' => judge_buckets(bytes, h, at, &mut out, &mut work),
+        _ => judge_buckets(bytes, h, at, &mut out, &mut work),
+    }
+}
+
+// Judges an accepted book, or says that it is one.
+fn judge_accepted(bytes: &[u8], h: Header, at: Places, letter: u8)
+    requires { ⌜ Opened (now bytes) h at ⌝ }
+{
+    match letter {
+        b'd' | b's' | b'l' | b'b' => judge_rules(bytes, h, at, letter),
         _ => {
             io::write_all(STDOUT_FILENO, b"accepted\n");
         }
