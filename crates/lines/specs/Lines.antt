@@ -1,6 +1,6 @@
 -- Lines of a text, and bytes in hexadecimal.
 use Prim.Native.Nat.{ℕ, zero, suc, _+_, _*_, _-_}
-use mathlib.Core.Bool.{Bool, cond, _&&_}
+use mathlib.Core.Bool.{cond, _&&_}
 use mathlib.Core.List.{List, [], _∷_, _++_}
 use lib.ListN.{getD}
 use lib.Dec.{eqb, leb}
@@ -22,7 +22,3 @@ lineLength (b ∷ bs) = cond (eqb b 10) 0 (suc (lineLength bs))
 -- the first byte of a line, and 0 for an empty one
 abbrev pub markOf : List ℕ → ℕ
 markOf text = getD text 0 0
-
--- a heading starts with `#`
-unfoldable pub isHeading : List ℕ → Bool
-isHeading text = eqb (markOf text) 35

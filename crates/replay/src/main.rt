@@ -3,13 +3,9 @@
 // `NUMBER PLACE COUNT | NUMBER ROOT LINKS | NUMBER YES`, and ` | KIND SUBJECT OBJECT` for each finding that the room holds whole. A line
 // that starts with `#` is a heading, and is written as it stands. A line without the 12 bytes, or with more than 65,535 bytes or 4,678 words to
 // lend, is answered by `bad line`. A line of more than 65,535 bytes is read as several.
-ghost use Prim.Native.Nat.{_+_, _≤_};
-ghost use lib.ListN.{length};
-ghost use Rattle.io.specs.Counts.{Counts};
 use dockwrench::Ancestor;
 use dockwrench::Availability;
 use dockwrench::Checked;
-use libc::STDIN_FILENO;
 use libc::STDOUT_FILENO;
 
 // Writes two numbers.
@@ -67,33 +63,9 @@ fn write_availability(answer: Availability) {
     }
 }
 
-// Writes the finding at byte `at`: kind, subject and object.
-fn write_finding(out: &[u8], at: usize)
-    requires { ⌜ at + 17 ≤ length (now out) ⌝ }
-{
-    write_bar();
-    write_three(
-        bits::byte(out, at) as usize,
-        bits::be64(out, at + 1) as usize,
-        bits::be64(out, at + 9) as usize,
-    );
-}
-
-// Writes the first `count` findings of a buffer, or those that it holds whole.
-fn write_findings(out: &[u8], count: usize) {
-    let mut k: usize = 0;
-    while k < out.len() / 17 {
-        if k == count {
-            return;
-        }
-        write_finding(out, 17 * k);
-        k += 1;
-    }
-}
-
 // Writes what answers a line that can't be replayed.
 fn write_bad() {
-    report::write_line(b"bad line");
+    io::write_all(STDOUT_FILENO, b"bad line\n");
 }
 
 // Both questions.
@@ -111,7 +83,7 @@ fn replay(book: &[u8], findings: &mut [u8], work: &mut [u64], id: u32) {
     let answer = dockwrench::check(book, findings, work);
     let count = write_checked(answer);
     ask(book, id);
-    write_findings(findings, count);
+    lines::write_findings(findings, count, b" | ");
     io::write_all(STDOUT_FILENO, b"\n");
 }
 
@@ -144,8 +116,7 @@ fn show_bytes(bytes: &[u8]) {
 
 // A heading, or bytes in hexadecimal.
 fn show(text: &[u8]) {
-    if lines::is_heading(text) {
-        report::write_line(text);
+    if lines::echo(text, b'#') {
         return;
     }
     let mut space = io::large_buffer();
@@ -159,27 +130,9 @@ fn show_line(text: &[u8]) {
     show(&text[..end]);
 }
 
-// Reads a line and its newline, a byte at a time and as far as there is room; returns the number of bytes, which is 0 at the end of the input.
-fn read_line(line: &mut [u8]) -> usize
-    ensures { λ r. ⌜ Counts r (now (line .exit)) ⌝ }
-{
-    let mut n: usize = 0;
-    while n < line.len() {
-        let next = n + 1;
-        if libc::read(STDIN_FILENO, &mut line[n..next]) < 1 {
-            return n;
-        }
-        if line[n] == b'\n' {
-            return next;
-        }
-        n = next;
-    }
-    n
-}
-
 // Reads a line and shows it; returns whether there was one.
 fn show_next(line: &mut [u8]) -> bool {
-    let n = read_line(line);
+    let n = lines::read_line(line);
     if n == 0 {
         return false;
     }

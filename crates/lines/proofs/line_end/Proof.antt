@@ -1,7 +1,8 @@
 -- What is left of the line, past the bytes gone by.
 use Prim.Native.Nat.{_+_, _-_, _≤_}
-use mathlib.Core.Path.{_≡_, refl}
+use mathlib.Core.Path.{_≡_, refl, sym}
 use lib.ListN.{length, drop}
+use lib.Seq.{length-take-le}
 use borrow.Author.Needs.{needs}
 use native.Mathlib.Omega.{arith}
 use Rattle.lines.specs.Lines.{lineLength}
@@ -23,8 +24,8 @@ line-end-spec =
     μ-loop
     (λ c. (omega arith, refl))
     (λ c. search needs)
-    (λ c. (omega (arith, line-here (c .before .before .before .before .args .text .now) (c .before .before .before .loop .end) (c .before .before .loop-test .taken) (c .if1 .taken)), omega arith))
+    (λ c. (omega (arith, line-here (c .before .before .before .before .args .text .now) (c .before .before .before .loop .end) (c .before .before .loop-test .taken) (c .if1 .taken)), (omega arith, sym (length-take-le _ _ (omega arith)))))
     (λ c. search needs)
     (λ c. search needs)
     (λ c. (omega arith, omega (arith, line-on (c .before .before .before .before .args .text .now) (c .before .before .before .loop .end) (c .before .before .loop-test .taken) (c .if1 .left))))
-    (λ c. (omega (arith, line-past (c .before .before .args .text .now) (c .before .loop .end) (c .loop-test .left)), omega arith)))
+    (λ c. (omega (arith, line-past (c .before .before .args .text .now) (c .before .loop .end) (c .loop-test .left)), (omega arith, sym (length-take-le _ _ (omega arith))))))
