@@ -1,4 +1,3 @@
-mod Examples
 mod Tables
 mod Covers
 mod Ranges

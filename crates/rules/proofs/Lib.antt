@@ -1,4 +1,5 @@
-pub mod RuleKinds
+mod Buckets
 pub mod Demand3
 mod Examples
 pub mod Rows
+pub mod RuleKinds

@@ -1,7 +1,6 @@
 -- Examples of free space and generations, by computing: a run that starts one below the first bucket, and the ends of bucket numbers.
 use Prim.Native.Nat.{ℕ, _-_, _^_}
 use mathlib.Core.Path.{_≡_, refl}
-use mathlib.Core.Bool.{true}
 use mathlib.Core.List.{List, [], _∷_, _++_, map}
 use mathlib.Core.Option.{Option, none, some}
 use lib.ListN.{replicate}
@@ -9,8 +8,9 @@ use Rattle.findings.specs.Findings.{finding, when, only, each}
 use Rattle.pairs.specs.Pairs.{pair, insert, sort}
 use Rattle.book.specs.Maps.{lookup}
 use Rattle.book.specs.Book.{Bkey, Book, is}
 use Rattle.buckets.specs.BucketGensAgainstAlloc.{orZero, isGens, bucketOf, genAt, gensOfKey, covered, uncovered, bucketGensAgainstAlloc}
 use Rattle.buckets.specs.FreeSpace.{noRun, inUse, isFree, allocRange, usedBuckets, firstOr, setFindings, runFindings, heldRuns, gaps, gapFindings, freeSpace}
+use Rattle.rules.specs.Rows.{hole}
 
 -- a run that ends at `end`, of `size` buckets
 run : ℕ → ℕ → Bkey
@@ -20,29 +20,9 @@ run end size = record { btree = 11; keyType = 25; size = size; inode = 0; offset
 recorded : ℕ → List ℕ → Bkey
 recorded offset value = record { btree = 14; keyType = 30; size = 0; inode = 0; offset = offset; snapshot = 0; value = value }
 
--- a book of device 0 with buckets from 1 up to 4
+-- the book of the table's row on a hole, device 0 with buckets from 1 up to 4, with these tables and keys
 book : List (ℕ × ℕ) → List (ℕ × Option ℕ) → List Bkey → Book
-book gens alloc keys = record {
-  header = record {
-    layout = 1;
-    trees = true;
-    spare = 0;
-    version = 1063;
-    «first_bucket» = 1;
-    keys = 0;
-    device = 0;
-    buckets = 4;
-    parents = 0;
-    subvolumes = 0;
-    gens = 0;
-    alloc = 0;
-  };
-  parents = [];
-  subvolumes = [];
-  gens = gens;
-  alloc = alloc;
-  keys = keys;
-}
+book gens alloc keys = record { header = hole .header; parents = []; subvolumes = []; gens = gens; alloc = alloc; keys = keys }
 
 free : map freeSpace
     (book [] [] [] ∷
@@ -61,7 +41,7 @@ free : map freeSpace
     (finding 50 1 2 ∷ finding 49 2 0 ∷ []) ∷
     (finding 47 5 1 ∷ finding 47 2 3 ∷ []) ∷
     (finding 50 2 3 ∷ []) ∷ []
-unfolding run book when only each insert sort is pair noRun inUse isFree allocRange usedBuckets firstOr setFindings runFindings heldRuns gaps gapFindings freeSpace
+unfolding run book hole when only each insert sort is pair noRun inUse isFree allocRange usedBuckets firstOr setFindings runFindings heldRuns gaps gapFindings freeSpace
 free = refl
 
 generations : map bucketGensAgainstAlloc
@@ -71,5 +51,5 @@ generations : map bucketGensAgainstAlloc
     book [] [] (recorded (2 ^ 56) (0 ∷ 1 ∷ []) ∷ []) ∷
     book [] [] (recorded (2 ^ 56 - 1) (replicate 255 0 ++ (9 ∷ 9 ∷ [])) ∷ []) ∷ [])
     ≡ (finding 46 1 7 ∷ []) ∷ (finding 46 300 2 ∷ []) ∷ [] ∷ (finding 46 1 1 ∷ []) ∷ (finding 46 (2 ^ 64 - 1) 9 ∷ []) ∷ []
-unfolding recorded book when only each is lookup orZero isGens bucketOf genAt gensOfKey covered uncovered bucketGensAgainstAlloc
+unfolding recorded book hole when only each is lookup orZero isGens bucketOf genAt gensOfKey covered uncovered bucketGensAgainstAlloc
 generations = refl
