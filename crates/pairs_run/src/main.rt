@@ -6,6 +6,9 @@ ghost use Rattle.pairs.specs.Pairs.{pairsOf, Sorted};
 
 const LARGEST: u64 = 0xffff_ffff_ffff_ffff;
 
+// The greatest of the least first words of pairs that can be packed.
+const LAST: u64 = 0xffff_ffff_8000_0000;
+
 // Sizes of examples: ranges of more than 20 pairs are partitioned.
 const SIZES: [u8; 9] = [0, 1, 2, 19, 20, 21, 22, 65, 200];
 
@@ -23,7 +26,7 @@ enum Made {
     Random,
     Random64th,
     Random2048th,
-    RandomWide,
+    Wide,
     Below100,
     Below1000,
     Below4,
@@ -43,7 +46,7 @@ fn number_of(made: Made, x: u64, place: u64, left: u64) -> u64
         Made::Random => x,
         Made::Random64th => x / 64,
         Made::Random2048th => x / 2048,
-        Made::RandomWide => x * 32767,
+        Made::Wide => x * 32767,
         Made::Below100 => x % 100,
         Made::Below1000 => x / 16 % 1000,
         Made::Below4 => x / 4096 % 4,
@@ -217,7 +220,7 @@ fn kinds(w: &mut [u64])
     many(w, 1024, Made::Random, 0, 5000, 65536);
     many(w, 1500, Made::Random64th, 77, 5000, 2000);
     many(w, 1500, Made::Random2048th, 77, 5000, 90);
-    many(w, 1500, Made::RandomWide, 77, 5000, 77);
+    many(w, 1500, Made::Wide, 77, 5000, 77);
     many(w, 1500, Made::Nothing, 77, 5000, 77);
 }
 
@@ -225,25 +228,11 @@ fn kinds(w: &mut [u64])
 fn bounds(w: &mut [u64])
     requires { ⌜ 3000 ≤ length (now w) ⌝ }
 {
-    many(w, 1024, Made::RandomWide, 0, 0x1_ffff_ffff, 0x7fff_ffff);
-    many(w, 1024, Made::RandomWide, 0, 0x1_ffff_ffff, 0x8000_0000);
-    many(w, 1024, Made::RandomWide, 0, 0x2_0000_0000, 0x7fff_ffff);
-    many(
-        w,
-        1024,
-        Made::RandomWide,
-        0xffff_ffff_8000_0000,
-        5000,
-        LARGEST,
-    );
-    many(
-        w,
-        1024,
-        Made::Random,
-        0xffff_ffff_8000_0000,
-        LARGEST,
-        LARGEST,
-    );
+    many(w, 1024, Made::Wide, 0, 0x1_ffff_ffff, 0x7fff_ffff);
+    many(w, 1024, Made::Wide, 0, 0x1_ffff_ffff, 0x8000_0000);
+    many(w, 1024, Made::Wide, 0, 0x2_0000_0000, 0x7fff_ffff);
+    many(w, 1024, Made::Wide, LAST, 5000, LARGEST);
+    many(w, 1024, Made::Random, LAST, LARGEST, LARGEST);
     many(w, 1024, Made::Random, 0xffff_ffff_7fff_ffff, 5000, LARGEST);
     many(w, 1024, Made::Random, 0, 5000, LARGEST);
 }
@@ -252,14 +241,7 @@ fn bounds(w: &mut [u64])
 fn too_high(w: &mut [u64])
     requires { ⌜ 3000 ≤ length (now w) ⌝ }
 {
-    many(
-        w,
-        1024,
-        Made::RandomWide,
-        0xffff_ffff_8000_0000,
-        5000,
-        LARGEST,
-    );
+    many(w, 1024, Made::Wide, LAST, 5000, LARGEST);
     pairs::put_pair(w, 0, 0xffff_ffff_8000_0001, 3);
     pairs::put_pair(w, 1, LARGEST, 9);
     sort_many(w, 1024);
