@@ -270,7 +270,7 @@ pub fn bucket_gens_against_alloc(
     let keys = gens_of_keys(book, h, at, out, work);
     let n = keys.found;
     let covers = keys.put;
-    pairs::sort_pairs(work, covers);
+    sorting::sort_pairs(work, covers);
     let from = start_of(out.len(), n);
     n
         + show_uncovered(
@@ -574,7 +574,7 @@ pub fn free_space(book: &[u8], h: Header, at: Places, out: &mut [u8], work: &mut
     let runs = take_runs(book, h, at, out, work);
     let n = runs.found;
     let m = runs.put;
-    pairs::sort_pairs(work, m);
+    sorting::sort_pairs(work, m);
     let rest = start_of(out.len(), n);
     n + show_gaps(book, h, at, work, m, &mut out[rest..])
 }

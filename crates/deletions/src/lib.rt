@@ -248,6 +248,6 @@ pub fn snapshot_states(
     ensures few { λ r. ⌜ r ≤ h .keys * 3 ⌝ }
 {
     let n = put_sets(book, h, at, work);
-    pairs::sort_pairs(work, n);
+    sorting::sort_pairs(work, n);
     show_snapshots(book, h, at, work, n, out)
 }

@@ -513,7 +513,7 @@ pub fn snapshot_links(book: &[u8], h: Header, at: Places, out: &mut [u8], work: 
 {
     if h.trees {
         let n = put_links(book, h, at, work);
-        pairs::sort_pairs(work, n);
+        sorting::sort_pairs(work, n);
         return show_all(book, h, at, work, n, out);
     }
     0

@@ -13,7 +13,7 @@ use Rattle.findings.specs.Findings.{keep}
 use Rattle.pairs.specs.declared.MaybeU64.{MaybeU64}
 use Rattle.pairs.specs.declared.MaybeU64.the-variants.{Is, Absent}
 use Rattle.pairs.specs.Pairs.{pair, sort, Sorted, countBelow, orElse}
-use Rattle.pairs.specs.Steps.{count, Permuted}
+use Rattle.pairs.specs.Counts.{count, Permuted}
 use Rattle.pairs.proofs.Order.{tested, both-true, same-or-not, less-or-not, there, each, sorted-tail, sorted-cons, sorted-least, sort-permuted, sort-sorted, sorted-unique}
 use Rattle.pairs.proofs.Bounds.{bound-inside, bound-before, bound-past}
 use Rattle.maps.specs.Places.{placePair, numberIn, whichIn, placeIn, isFor, lastPlace}

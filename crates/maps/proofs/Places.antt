@@ -13,7 +13,7 @@ use Rattle.findings.specs.Findings.{Finding, keep, each}
 use Rattle.pairs.specs.declared.MaybeU64.{MaybeU64}
 use Rattle.pairs.specs.declared.MaybeU64.the-variants.{Is, Absent}
 use Rattle.pairs.specs.Pairs.{pair, pairsOf, sort, Sorted, has, orElse}
-use Rattle.pairs.specs.Steps.{count}
+use Rattle.pairs.specs.Counts.{count}
 use Rattle.pairs.proofs.Order.{both-true, same-or-not, there, sorted-tail, sorted-cons, sort-sorted, sorted-by}
 use Rattle.pairs.proofs.Bounds.{has-sort}
 use Rattle.pairs.proofs.Words.{length-pairs}

@@ -1,17 +1,17 @@
--- The laws of `countBelow`, `has` and `isSorted`.
+-- The laws of `countBelow` and `has`.
 use Prim.Native.Nat.{ℕ, zero, suc, _+_, _≤_, _<_, zero-le, suc-le-suc}
 use mathlib.Core.Path.{_≡_, refl, sym, ap, _∙_}
-use mathlib.Core.Bool.{true, false, true≢false, _||_, or-assoc}
+use mathlib.Core.Bool.{true, false, _||_, or-assoc}
 use mathlib.Core.Logic.{⊎-elim}
 use mathlib.Core.List.{List, [], _∷_, _++_}
 use native.Mathlib.Nat.{zero-add, le-trans, le-antisymm, le-of-suc-le-suc, lt-of-le-of-lt, not-suc-le-zero}
 use native.Mathlib.Omega.{arith}
 use lib.ListN.{length, getD}
 use lib.Dec.{ltb, eqb}
-use borrow.Author.Tests.{lt-ltb, le-ltb, eq-eqb, eqb-true}
+use borrow.Author.Tests.{lt-ltb, le-ltb}
 use Rattle.pairs.specs.Pairs.{sort, Sorted, has, countBelow}
-use Rattle.pairs.specs.Steps.{isSorted, count, Permuted}
-use Rattle.pairs.proofs.Order.{tested, less-or-not, there, each, sorted-tail, sorted-cons, sorted-least, sort-permuted}
+use Rattle.pairs.specs.Counts.{count, Permuted}
+use Rattle.pairs.proofs.Order.{tested, less-or-not, there, each, sort-permuted}
 
 -- ---- countBelow
 bound-most : (x : ℕ) (xs : List ℕ) (r : ℕ) → ((k : ℕ) → r ≤ k → k < length xs → x ≤ getD xs k 0) → countBelow x xs ≤ r
@@ -83,25 +83,3 @@ has-bound x xs r s c h = has-none x xs (λ k l e.
     let a : r ≤ k = less-or-not k r (λ t. absurd (let b = bound-before x xs s k (omega arith) in omega arith)) (λ t. t) in
     let i : r < length xs = omega arith in
     h i (omega (arith, s r k a l, bound-past x xs s r (omega arith) i)))
-
--- ---- isSorted
-pub sorted-test : (xs : List ℕ) → Sorted xs → isSorted xs ≡ true
-unfolding isSorted
-sorted-test [] s = refl
-sorted-test (x ∷ xs) s =
-    let none : countBelow x xs ≡ 0 = le-antisymm (bound-most x xs 0 (λ k a l. sorted-least x xs s k l)) zero-le in
-    rw (eq-eqb (countBelow x xs) 0 none) (sorted-test xs (sorted-tail x xs s))
-
-pub test-sorted : (xs : List ℕ) → isSorted xs ≡ true → Sorted xs
-unfolding isSorted
-test-sorted [] e = unfold Sorted in λ i j h l. absurd (not-suc-le-zero l)
-test-sorted (x ∷ xs) e = ⊎-elim
-    (λ t.
-    let s = test-sorted xs (rw t at e) in
-    let z = eqb-true (countBelow x xs) 0 t in
-    sorted-cons x xs (λ k l. bound-past x xs s k (omega arith) l) s)
-    (λ t. absurd (true≢false (sym (rw t at e))))
-    (tested (eqb (countBelow x xs) 0))
-
-pub unsorted-test : (xs : List ℕ) → (Sorted xs → ⊥) → isSorted xs ≡ false
-unsorted-test xs h = ⊎-elim (λ t. absurd (h (test-sorted xs t))) (λ t. t) (tested (isSorted xs))

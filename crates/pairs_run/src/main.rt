@@ -6,6 +6,9 @@ ghost use Rattle.pairs.specs.Pairs.{pairsOf, Sorted};
 
 const LARGEST: u64 = 0xffff_ffff_ffff_ffff;
 
+// The greatest of the least first words of pairs that can be packed.
+const LAST: u64 = 0xffff_ffff_8000_0000;
+
 // Sizes of examples: ranges of more than 20 pairs are partitioned.
 const SIZES: [u8; 9] = [0, 1, 2, 19, 20, 21, 22, 65, 200];
 
@@ -17,15 +20,57 @@ fn next(x: u64) -> u64
     (x * 1109 + 12345) % 65536
 }
 
-// Puts n pairs: a first word below 100, and the pair's place.
-fn fill(w: &mut [u64], n: usize)
+// How a number of an example is made: of nothing, of a random number, of a pair's place, or of how many places are left.
+enum Made {
+    Nothing,
+    Random,
+    Random64th,
+    Random2048th,
+    Wide,
+    Below100,
+    Below1000,
+    Below4,
+    Below2,
+    Place,
+    Left,
+    Left20th,
+    Left21st,
+}
+
+// The number that is made so of x, the place and the places left.
+fn number_of(made: Made, x: u64, place: u64, left: u64) -> u64
+    requires { ⌜ x < 65536 ⌝ }
+{
+    match made {
+        Made::Nothing => 0,
+        Made::Random => x,
+        Made::Random64th => x / 64,
+        Made::Random2048th => x / 2048,
+        Made::Wide => x * 32767,
+        Made::Below100 => x % 100,
+        Made::Below1000 => x / 16 % 1000,
+        Made::Below4 => x / 4096 % 4,
+        Made::Below2 => x / 16 % 2,
+        Made::Place => place,
+        Made::Left => left,
+        Made::Left20th => left / 20,
+        Made::Left21st => left / 21,
+    }
+}
+
+// Puts n pairs: base and a number as a first word, and tail and a number as a second word.
+fn fill(w: &mut [u64], n: usize, first: Made, base: u64, second: Made, tail: u64)
     requires { ⌜ 2 * n ≤ length (now w) ⌝ }
 {
     let mut x: u64 = 1;
     let mut i = 0;
     while i < n {
         x = next(x);
-        pairs::put_pair(w, i, x % 100, i as u64);
+        let place = i as u64;
+        let left = (n - i) as u64;
+        let a = std::num::wrapping_add_u64(base, number_of(first, x, place, left));
+        let b = std::num::wrapping_add_u64(tail, number_of(second, x, place, left));
+        pairs::put_pair(w, i, a, b);
         i += 1;
     }
 }
@@ -89,29 +134,16 @@ fn byte(s: &[u8], i: usize) -> usize
     s[i] as usize
 }
 
-// Puts n pairs of few values: a first word below `kinds`, and a second word below 4.
-fn fill_few(w: &mut [u64], n: usize, kinds: u64)
-    requires { ⌜ (2 * n ≤ length (now w)) × (0 < kinds) ⌝ }
-{
-    let mut x: u64 = 1;
-    let mut i = 0;
-    while i < n {
-        x = next(x);
-        pairs::put_pair(w, i, x / 16 % kinds, x / 4096 % 4);
-        i += 1;
-    }
-}
-
-// Sorts pairs of few values, for each size, and writes them.
-fn few(w: &mut [u64], sizes: &[u8], kinds: u64)
-    requires { ⌜ (510 ≤ length (now w)) × (0 < kinds) ⌝ }
+// Sorts pairs of few values, for each size, and writes them: first words of so many kinds, made as `first` says, and second words below 4.
+fn few(w: &mut [u64], sizes: &[u8], first: Made, kinds: u64)
+    requires { ⌜ 510 ≤ length (now w) ⌝ }
 {
     let mut i = 0;
     while i < sizes.len() {
         let n = byte(sizes, i);
         line(n as u64, kinds);
-        fill_few(w, n, kinds);
-        pairs::sort_pairs(w, n);
+        fill(w, n, first, 0, Made::Below4, 0);
+        sorting::sort_pairs(w, n);
         show(w, n);
         i += 1;
     }
@@ -132,49 +164,11 @@ fn fill_by(w: &mut [u64], bytes: &[u8])
 fn examples(w: &mut [u64])
     requires { ⌜ 510 ≤ length (now w) ⌝ }
 {
-    few(w, &SIZES, 1000);
-    few(w, &SIZES, 2);
+    few(w, &SIZES, Made::Below1000, 1000);
+    few(w, &SIZES, Made::Below2, 2);
     fill_by(w, b":;,<0=4>8?@ABCDEFGHIJK%'#LMNO62.*&(P$QRS7531/-+)");
-    pairs::sort_pairs(w, 48);
+    sorting::sort_pairs(w, 48);
     show(w, 48);
-}
-
-// A first word that is made of x: for each kind so many alike, or over a wider range.
-fn first(x: u64, kind: u64) -> u64
-    requires { ⌜ x < 65536 ⌝ }
-    ensures { λ r. ⌜ r < 2147483648 ⌝ }
-{
-    match kind {
-        0 => x,
-        1 => x / 64,
-        2 => x / 2048,
-        3 => x * 32767,
-        _ => 0,
-    }
-}
-
-// Puts n pairs: base and more as a first word, and as second words numbers that fall from tail.
-fn fill_many(w: &mut [u64], n: usize, kind: u64, base: u64, tail: u64)
-    requires { ⌜ (2 * n ≤ length (now w)) × (base ≤ 0xffff_ffff_8000_0000) × (n ≤ tail) ⌝ }
-{
-    let mut x: u64 = 1;
-    let mut i = 0;
-    while i < n {
-        x = next(x);
-        pairs::put_pair(w, i, base + first(x, kind), tail - i as u64);
-        i += 1;
-    }
-}
-
-// Puts n pairs whose first words fall, so many of them alike, and second words that rise.
-fn fill_falling(w: &mut [u64], n: usize, alike: usize)
-    requires { ⌜ (2 * n ≤ length (now w)) × (0 < alike) ⌝ }
-{
-    let mut i = 0;
-    while i < n {
-        pairs::put_pair(w, i, ((n - i) / alike) as u64, i as u64);
-        i += 1;
-    }
 }
 
 // A number that depends on each of the first n pairs and its place.
@@ -195,26 +189,26 @@ fn digest(w: &[u64], n: usize) -> u64
 fn sort_many(w: &mut [u64], n: usize)
     requires { ⌜ (2 * n ≤ length (now w)) × (2 ≤ n) ⌝ }
 {
-    pairs::sort_pairs(w, n);
+    sorting::sort_pairs(w, n);
     line(n as u64, digest(w, n));
     show(w, 2);
 }
 
-// Sorts n pairs, of which the pair of base and tail is one, and the pair of high and 0.
-fn many(w: &mut [u64], n: usize, kind: u64, base: u64, tail: u64, high: u64)
-    requires { ⌜ (2 * n ≤ length (now w)) × (2 ≤ n) × (base ≤ 0xffff_ffff_8000_0000) × (n ≤ tail) ⌝ }
+// Sorts n pairs, of which the pair of base and tail is one, and the pair of high and 0. The second words of the others fall from tail.
+fn many(w: &mut [u64], n: usize, first: Made, base: u64, tail: u64, high: u64)
+    requires { ⌜ (2 * n ≤ length (now w)) × (2 ≤ n) × (n ≤ tail) ⌝ }
 {
-    fill_many(w, n, kind, base, tail);
+    fill(w, n, first, base, Made::Left, tail - n as u64);
     pairs::put_pair(w, 1, base, tail);
     pairs::put_pair(w, n - 1, high, 0);
     sort_many(w, n);
 }
 
-// Sorts n pairs in falling order.
-fn falling(w: &mut [u64], n: usize, alike: usize)
-    requires { ⌜ (2 * n ≤ length (now w)) × (2 ≤ n) × (0 < alike) ⌝ }
+// Sorts n pairs whose first words fall, and whose second words rise.
+fn falling(w: &mut [u64], n: usize, first: Made)
+    requires { ⌜ (2 * n ≤ length (now w)) × (2 ≤ n) ⌝ }
 {
-    fill_falling(w, n, alike);
+    fill(w, n, first, 0, Made::Place, 0);
     sort_many(w, n);
 }
 
@@ -222,32 +216,32 @@ fn falling(w: &mut [u64], n: usize, alike: usize)
 fn kinds(w: &mut [u64])
     requires { ⌜ 3000 ≤ length (now w) ⌝ }
 {
-    many(w, 1023, 0, 0, 5000, 65536);
-    many(w, 1024, 0, 0, 5000, 65536);
-    many(w, 1500, 1, 77, 5000, 2000);
-    many(w, 1500, 2, 77, 5000, 90);
-    many(w, 1500, 3, 77, 5000, 77);
-    many(w, 1500, 4, 77, 5000, 77);
+    many(w, 1023, Made::Random, 0, 5000, 65536);
+    many(w, 1024, Made::Random, 0, 5000, 65536);
+    many(w, 1500, Made::Random64th, 77, 5000, 2000);
+    many(w, 1500, Made::Random2048th, 77, 5000, 90);
+    many(w, 1500, Made::Wide, 77, 5000, 77);
+    many(w, 1500, Made::Nothing, 77, 5000, 77);
 }
 
 // Sorts pairs at the bounds of what can be packed, and past them.
 fn bounds(w: &mut [u64])
     requires { ⌜ 3000 ≤ length (now w) ⌝ }
 {
-    many(w, 1024, 3, 0, 0x1_ffff_ffff, 0x7fff_ffff);
-    many(w, 1024, 3, 0, 0x1_ffff_ffff, 0x8000_0000);
-    many(w, 1024, 3, 0, 0x2_0000_0000, 0x7fff_ffff);
-    many(w, 1024, 3, 0xffff_ffff_8000_0000, 5000, LARGEST);
-    many(w, 1024, 0, 0xffff_ffff_8000_0000, LARGEST, LARGEST);
-    many(w, 1024, 0, 0xffff_ffff_7fff_ffff, 5000, LARGEST);
-    many(w, 1024, 0, 0, 5000, LARGEST);
+    many(w, 1024, Made::Wide, 0, 0x1_ffff_ffff, 0x7fff_ffff);
+    many(w, 1024, Made::Wide, 0, 0x1_ffff_ffff, 0x8000_0000);
+    many(w, 1024, Made::Wide, 0, 0x2_0000_0000, 0x7fff_ffff);
+    many(w, 1024, Made::Wide, LAST, 5000, LARGEST);
+    many(w, 1024, Made::Random, LAST, LARGEST, LARGEST);
+    many(w, 1024, Made::Random, 0xffff_ffff_7fff_ffff, 5000, LARGEST);
+    many(w, 1024, Made::Random, 0, 5000, LARGEST);
 }
 
 // Sorts pairs whose least first word is the first that is not packed.
 fn too_high(w: &mut [u64])
     requires { ⌜ 3000 ≤ length (now w) ⌝ }
 {
-    many(w, 1024, 3, 0xffff_ffff_8000_0000, 5000, LARGEST);
+    many(w, 1024, Made::Wide, LAST, 5000, LARGEST);
     pairs::put_pair(w, 0, 0xffff_ffff_8000_0001, 3);
     pairs::put_pair(w, 1, LARGEST, 9);
     sort_many(w, 1024);
@@ -258,9 +252,9 @@ fn large(w: &mut [u64])
     requires { ⌜ 3000 ≤ length (now w) ⌝ }
 {
     kinds(w);
-    falling(w, 1500, 1);
-    falling(w, 1500, 20);
-    falling(w, 1500, 21);
+    falling(w, 1500, Made::Left);
+    falling(w, 1500, Made::Left20th);
+    falling(w, 1500, Made::Left21st);
     bounds(w);
     too_high(w);
 }
@@ -268,12 +262,12 @@ fn large(w: &mut [u64])
 fn main() {
     let mut words = [0u64; 3000];
     let w: &mut [u64] = &mut words;
-    fill(w, 297);
+    fill(w, 297, Made::Below100, 0, Made::Place, 0);
     pairs::put_pair(w, 297, LARGEST, LARGEST);
     pairs::put_pair(w, 298, LARGEST, 7);
     pairs::put_pair(w, 299, LARGEST, LARGEST);
-    pairs::sort_pairs(w, 300);
-    pairs::sort_pairs(w, 300);
+    sorting::sort_pairs(w, 300);
+    sorting::sort_pairs(w, 300);
     show(w, 300);
     look_all(w, 300);
     examples(w);

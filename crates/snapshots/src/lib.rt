@@ -361,6 +361,6 @@ pub fn subvolume_children(
     ensures few { λ r. ⌜ r ≤ 2 * h .keys ⌝ }
 {
     let n = put_children(book, h, at, work);
-    pairs::sort_pairs(work, n);
+    sorting::sort_pairs(work, n);
     show_children(book, h, at, work, n, out)
 }

@@ -12,7 +12,7 @@ use Rattle.bits.specs.Bits.{leAt}
 use Rattle.findings.specs.Findings.{Finding, finding, when, only, each, keep}
 use Rattle.findings.proofs.Walk.{each-any, each-keep, each-same}
 use Rattle.pairs.specs.Pairs.{pair, pairsOf, sort, Sorted}
-use Rattle.pairs.specs.Steps.{count, Permuted}
+use Rattle.pairs.specs.Counts.{count, Permuted}
 use Rattle.pairs.proofs.Order.{both-true, both-false, same-or-not, there, sorted-tail, sorted-cons, sort-sorted, sort-permuted, sorted-by}
 use Rattle.pairs.proofs.Words.{pair-first, pair-second, length-pairs, second}
 use Rattle.book.specs.Book.{Bkey, Book, is, keyEnd, keysFrom}

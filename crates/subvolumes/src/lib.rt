@@ -137,7 +137,7 @@ pub fn snapshot_claims(
     ensures few { λ r. ⌜ r ≤ h .keys ⌝ }
 {
     let n = put_claims(book, h, at, work);
-    pairs::sort_pairs(work, n);
+    sorting::sort_pairs(work, n);
     show_claims(work, n, out)
 }
 
@@ -367,7 +367,7 @@ fn sort_states(book: &[u8], h: Header, at: Places, work: &mut [u64]) -> usize
     ensures few { λ r. ⌜ r ≤ h .keys ⌝ }
 {
     let n = put_states(book, h, at, work);
-    pairs::sort_pairs(work, n);
+    sorting::sort_pairs(work, n);
     n
 }
 

@@ -7,10 +7,10 @@ use Rattle.pairs_run.proofs.few.Statement.{statement}
 use Rattle.pairs_run.proofs.few.Tie as tie
 
 abbrev Inv-loop : tie.InvT-loop
-Inv-loop w₀ sizes kinds i₀ w i = (i ≤ length sizes) × (length w ≡ length w₀)
+Inv-loop w₀ sizes first kinds i₀ w i = (i ≤ length sizes) × (length w ≡ length w₀)
 
 abbrev μ-loop : tie.MeasureT-loop
-μ-loop w₀ sizes kinds i₀ w i = length sizes - i
+μ-loop w₀ sizes first kinds i₀ w i = length sizes - i
 
 pub few-spec : {M : Type 1} → statement M
 few-spec =
