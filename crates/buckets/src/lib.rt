@@ -212,18 +212,18 @@ fn gens_of_keys(book: &[u8], h: Header, at: Places, out: &mut [u8], work: &mut [
     c
 }
 
-// What the entry of a gens table at byte p gives, where the first m pairs, which are sorted, are the offsets covered; n were found before.
-fn uncovered_at(book: &[u8], p: usize, work: &[u64], m: usize, out: &mut [u8], n: usize) -> usize
-    requires { ⌜ (p + 9 ≤ length (now book)) × (2 * m ≤ length (now work)) × Sorted (pairsOf (now work) m) × (n < 2 ^ 62) ⌝ }
-    ensures added { λ r. ⌜ Added (now (out .entry)) n (notCovered (pairsOf (now (work .entry)) m) (entryAt gensTable (now (book .entry)) p .first) (entryAt gensTable (now (book .entry)) p .rest)) r (now (out .exit)) ⌝ }
-    ensures few { λ r. ⌜ r ≤ n + 1 ⌝ }
+// What the entry of a gens table at byte p gives, where the first n pairs, which are sorted, are the offsets covered; m were found before.
+fn uncovered_at(book: &[u8], p: usize, work: &[u64], n: usize, out: &mut [u8], m: usize) -> usize
+    requires { ⌜ (p + 9 ≤ length (now book)) × (2 * n ≤ length (now work)) × Sorted (pairsOf (now work) n) × (m < 2 ^ 62) ⌝ }
+    ensures added { λ r. ⌜ Added (now (out .entry)) m (notCovered (pairsOf (now (work .entry)) n) (entryAt gensTable (now (book .entry)) p .first) (entryAt gensTable (now (book .entry)) p .rest)) r (now (out .exit)) ⌝ }
+    ensures few { λ r. ⌜ r ≤ m + 1 ⌝ }
 {
     let bucket = bits::be64(book, p);
     let generation = bits::byte(book, p + 8);
-    let covered = pairs::has_pair(work, m, bucket / 256, 0);
+    let covered = pairs::has_pair(work, n, bucket / 256, 0);
     emit_if(
         out,
-        n,
+        m,
         (generation != 0) & !covered,
         46,
         bucket,
@@ -231,28 +231,28 @@ fn uncovered_at(book: &[u8], p: usize, work: &[u64], m: usize, out: &mut [u8], n
     )
 }
 
-// What the `count` entries of a gens table from byte `start` on give, by the first m pairs, which are sorted.
+// What the `count` entries of a gens table from byte `start` on give, by the first n pairs, which are sorted.
 fn show_uncovered(
     book: &[u8],
     start: usize,
     count: usize,
     work: &[u64],
-    m: usize,
+    n: usize,
     out: &mut [u8],
 ) -> usize
-    requires { ⌜ Rising gensTable (now book) start count × (count < 2 ^ 32) × (2 * m ≤ length (now work)) × Sorted (pairsOf (now work) m) ⌝ }
-    ensures found { λ r. ⌜ Found (now (out .entry)) (each (λ _ e. notCovered (pairsOf (now (work .entry)) m) (e .0) (e .1)) 0 (gensFrom (now (book .entry)) count start)) r (now (out .exit)) ⌝ }
+    requires { ⌜ Rising gensTable (now book) start count × (count < 2 ^ 32) × (2 * n ≤ length (now work)) × Sorted (pairsOf (now work) n) ⌝ }
+    ensures found { λ r. ⌜ Found (now (out .entry)) (each (λ _ e. notCovered (pairsOf (now (work .entry)) n) (e .0) (e .1)) 0 (gensFrom (now (book .entry)) count start)) r (now (out .exit)) ⌝ }
     ensures few { λ r. ⌜ r ≤ count ⌝ }
 {
-    let mut n: usize = 0;
+    let mut found: usize = 0;
     let mut left = count;
     let mut p = start;
     while 0 < left {
-        n = uncovered_at(book, p, work, m, out, n);
+        found = uncovered_at(book, p, work, n, out, found);
         p += 9;
         left -= 1;
     }
-    n
+    found
 }
 
 // The findings of generations that differ: by the bucket_gens keys, then by the gens table where no key covers a bucket.
@@ -545,24 +545,24 @@ fn show_gap(
     n + show_entries(book, range.start, range.count, from, to, &mut out[rest..])
 }
 
-// What the gaps between the runs give: the first m pairs, which are sorted.
-fn show_gaps(book: &[u8], h: Header, at: Places, work: &[u64], m: usize, out: &mut [u8]) -> usize
-    requires { ⌜ Opened (now book) h at × (m ≤ h .keys) × (2 * m ≤ length (now work)) × Fair (h .«first_bucket») (pairsOf (now work) m) ⌝ }
-    ensures found { λ r. ⌜ Found (now (out .entry)) (gapsFindings (bookOf (now (book .entry)) .alloc) (gaps (h .«first_bucket») (pairsOf (now (work .entry)) m) (h .buckets))) r (now (out .exit)) ⌝ }
+// What the gaps between the runs give: the first n pairs, which are sorted.
+fn show_gaps(book: &[u8], h: Header, at: Places, work: &[u64], n: usize, out: &mut [u8]) -> usize
+    requires { ⌜ Opened (now book) h at × (n ≤ h .keys) × (2 * n ≤ length (now work)) × Fair (h .«first_bucket») (pairsOf (now work) n) ⌝ }
+    ensures found { λ r. ⌜ Found (now (out .entry)) (gapsFindings (bookOf (now (book .entry)) .alloc) (gaps (h .«first_bucket») (pairsOf (now (work .entry)) n) (h .buckets))) r (now (out .exit)) ⌝ }
     ensures few { λ r. ⌜ r ≤ h .keys + 1 + 2 * h .alloc ⌝ }
 {
-    let mut n: usize = 0;
+    let mut found: usize = 0;
     let mut from = h.first_bucket as u64;
     let mut i: usize = 0;
-    while i < m {
+    while i < n {
         let q = 2 * i;
         let start = work[q];
         let end = work[q + 1];
-        n = show_gap(book, h, at, from, start, out, n);
+        found = show_gap(book, h, at, from, start, out, found);
         from = most(from, end);
         i += 1;
     }
-    show_gap(book, h, at, from, h.buckets, out, n)
+    show_gap(book, h, at, from, h.buckets, out, found)
 }
 
 // The findings of runs of free buckets, then of the gaps between them.

@@ -16,12 +16,12 @@ use Rattle.buckets.proofs.show_gaps.Statement.{statement}
 use Rattle.buckets.proofs.show_gaps.Tie as tie
 
 abbrev Inv-loop : tie.InvT-loop
-Inv-loop book h at work m out₀ n₀ from₀ i₀ out n from i =
-    (i ≤ m) × (h .«first_bucket» ≤ from) × (n ≤ i + 2 * lowerBound from (bookOf book .alloc))
-    × Begun (gapsFindings (bookOf book .alloc) (gaps (h .«first_bucket») (pairsOf work m) (h .buckets))) out₀ (gapsFindings (bookOf book .alloc) (gaps from (drop i (pairsOf work m)) (h .buckets))) n out
+Inv-loop book h at work n out₀ found₀ from₀ i₀ out found from i =
+    (i ≤ n) × (h .«first_bucket» ≤ from) × (found ≤ i + 2 * lowerBound from (bookOf book .alloc))
+    × Begun (gapsFindings (bookOf book .alloc) (gaps (h .«first_bucket») (pairsOf work n) (h .buckets))) out₀ (gapsFindings (bookOf book .alloc) (gaps from (drop i (pairsOf work n)) (h .buckets))) found out
 
 abbrev μ-loop : tie.MeasureT-loop
-μ-loop book h at work m out₀ n₀ from₀ i₀ out n from i = m - i
+μ-loop book h at work n out₀ found₀ from₀ i₀ out found from i = n - i
 
 loop-again : tie.Need-loop-again Inv-loop μ-loop
 loop-again c =
@@ -30,19 +30,19 @@ loop-again c =
     let l = c .before .before .before .before .before .before .before .before .loop in
     let alloc = bookOf (a .book .now) .alloc in
     let small : (k : ℕ) → getD w k 0 < 2 ^ 64 = λ k. c .before .before .before .before .before .shared-slice-known4 .given k .fits in
-    let fair = fair-at (a .h .«first_bucket») w (a .m) (c .before .before .before .before .before .before .before .before .before .before .before .before .before .pre .3) small (l .i) (c .before .before .before .before .before .before .before .loop-test .taken) in
+    let fair = fair-at (a .h .«first_bucket») w (a .n) (c .before .before .before .before .before .before .before .before .before .before .before .before .before .pre .3) small (l .i) (c .before .before .before .before .before .before .before .loop-test .taken) in
     let next = c .most .ensures in (
       omega (arith, c .before .before .before .before .before .before .before .loop-test .taken),
       omega (arith, next, l .inv .1),
       omega (arith, c .before .before .before .show-gap .ensures .1, l .inv .2, bound-grows {x = l .from} {y = c .most .result} (omega (arith, next)) alloc, bound-grows {x = getD w (2 * l .i) 0} {y = c .most .result} (omega (arith, next, fair, l .inv .1)) alloc),
-      rw next (turn (l .inv .3) (c .before .before .before .show-gap .ensures .0) (gaps-next alloc w (a .m) (l .i) (l .from) (a .h .buckets) small (c .before .before .before .before .before .before .before .loop-test .taken))),
+      rw next (turn (l .inv .3) (c .before .before .before .show-gap .ensures .0) (gaps-next alloc w (a .n) (l .i) (l .from) (a .h .buckets) small (c .before .before .before .before .before .before .before .loop-test .taken))),
     )
 
 returns : tie.Need-returns Inv-loop μ-loop
 returns c =
     let a = c .before .before .before .before .before .before .before .before .before .before .args in
     let l = c .before .before .before .before .before .loop in (
-      last (turn (l .inv .3) (c .before .before .show-gap2 .ensures .0) (gaps-last (bookOf (a .book .now) .alloc) (a .work .now) (a .m) (l .i) (l .from) (a .h .buckets) (c .before .before .before .before .loop-test .left))) refl,
+      last (turn (l .inv .3) (c .before .before .show-gap2 .ensures .0) (gaps-last (bookOf (a .book .now) .alloc) (a .work .now) (a .n) (l .i) (l .from) (a .h .buckets) (c .before .before .before .before .loop-test .left))) refl,
       omega (arith, c .before .before .show-gap2 .ensures .1, l .inv .0, l .inv .2, c .before .before .before .before .before .before .before .before .before .before .pre .1, alloc-bound (c .before .before .before .before .before .before .before .before .before .before .pre .0) (l .from), alloc-bound (c .before .before .before .before .before .before .before .before .before .before .pre .0) (a .h .buckets)),
     )
 

@@ -13,17 +13,17 @@ use Rattle.buckets.proofs.show_uncovered.Statement.{statement}
 use Rattle.buckets.proofs.show_uncovered.Tie as tie
 
 abbrev Inv-loop : tie.InvT-loop
-Inv-loop book start count work m out₀ n₀ left₀ p₀ out n left p =
-    (n + left ≤ count) × (p + left * 9 ≤ length book)
-    × Begun (each (λ _ e. notCovered (pairsOf work m) (e .0) (e .1)) 0 (gensFrom book count start)) out₀ (each (λ _ e. notCovered (pairsOf work m) (e .0) (e .1)) 0 (gensFrom book left p)) n out
+Inv-loop book start count work n out₀ found₀ left₀ p₀ out found left p =
+    (found + left ≤ count) × (p + left * 9 ≤ length book)
+    × Begun (each (λ _ e. notCovered (pairsOf work n) (e .0) (e .1)) 0 (gensFrom book count start)) out₀ (each (λ _ e. notCovered (pairsOf work n) (e .0) (e .1)) 0 (gensFrom book left p)) found out
 
 abbrev μ-loop : tie.MeasureT-loop
-μ-loop book start count work m out₀ n₀ left₀ p₀ out n left p = left
+μ-loop book start count work n out₀ found₀ left₀ p₀ out found left p = left
 
 loop-again : tie.Need-loop-again Inv-loop μ-loop
 loop-again c =
     let a = c .before .before .before .before .before .before .before .before .before .args in
-    (omega arith, omega arith, turn (c .before .before .before .before .before .loop .inv .2) (c .before .before .uncovered-at .ensures .0) (table-next wholeRest gensTable (a .book .now) (λ e. notCovered (pairsOf (a .work .now) (a .m)) (e .0) (e .1)) (c .before .before .before .before .before .loop .left) (c .before .before .before .before .before .loop .p) (c .before .before .before .before .loop-test .taken)))
+    (omega arith, omega arith, turn (c .before .before .before .before .before .loop .inv .2) (c .before .before .uncovered-at .ensures .0) (table-next wholeRest gensTable (a .book .now) (λ e. notCovered (pairsOf (a .work .now) (a .n)) (e .0) (e .1)) (c .before .before .before .before .before .loop .left) (c .before .before .before .before .before .loop .p) (c .before .before .before .before .loop-test .taken)))
 
 pub show-uncovered-spec : {M : Type 1} → statement M
 show-uncovered-spec =
