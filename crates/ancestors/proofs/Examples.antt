@@ -1,7 +1,6 @@
 -- What stands above an id of a small table, in its array.
 use mathlib.Core.Path.{_≡_, refl}
 use mathlib.Core.List.{[], _∷_}
-use mathlib.Core.Option.{none, some}
 use lib.ListN.{take}
 use Rattle.book.specs.Maps.{lookup}
 use Rattle.parents.specs.Chains.{chainVia, chain}
