@@ -325,7 +325,7 @@ struct Range {
 }
 
 // The entries of an alloc table for the buckets from `from` up to `to`.
-fn alloc_range(book: &[u8], start: usize, count: usize, from: u64, to: u64) -> Range
+fn find_range(book: &[u8], start: usize, count: usize, from: u64, to: u64) -> Range
     requires { ⌜ Rising allocTable (now book) start count × (length (now book) ≤ 1048576) × (from ≤ to) ⌝ }
     ensures { λ r. ⌜ r ≡ rangeOf start (allocFrom (now (book .entry)) count start) from to ⌝ }
 {
@@ -335,6 +335,17 @@ fn alloc_range(book: &[u8], start: usize, count: usize, from: u64, to: u64) -> R
         start: start + low * 10,
         count: high - low,
     }
+}
+
+// The same, at once where the table has no entries: the compiler puts this test in place, and a run costs no search then.
+fn alloc_range(book: &[u8], start: usize, count: usize, from: u64, to: u64) -> Range
+    requires { ⌜ Rising allocTable (now book) start count × (length (now book) ≤ 1048576) × (from ≤ to) ⌝ }
+    ensures { λ r. ⌜ r ≡ rangeOf start (allocFrom (now (book .entry)) count start) from to ⌝ }
+{
+    if count == 0 {
+        return Range { start, count: 0 };
+    }
+    find_range(book, start, count, from, to)
 }
 
 // Whether a data type says that its bucket is in use.
@@ -523,7 +534,26 @@ fn show_entries(
     emit_if(out, n, at < to, 50, at, to)
 }
 
-// What the buckets from `from` up to `to`, which no run holds, give after n findings: nothing if there are none.
+// What the buckets from `from` up to `to`, which no run holds, give after n findings.
+fn show_hole(
+    book: &[u8],
+    h: Header,
+    at: Places,
+    from: u64,
+    to: u64,
+    out: &mut [u8],
+    n: usize,
+) -> usize
+    requires { ⌜ Opened (now book) h at × (n < 2 ^ 62) × (from < to) ⌝ }
+    ensures added { λ r. ⌜ Added (now (out .entry)) n (gapOf (bookOf (now (book .entry)) .alloc) from to) r (now (out .exit)) ⌝ }
+    ensures few { λ r. ⌜ r ≤ n + 1 + 2 * (lowerBound to (bookOf (now (book .entry)) .alloc) - lowerBound from (bookOf (now (book .entry)) .alloc)) ⌝ }
+{
+    let range = alloc_range(book, at.alloc, h.alloc as usize, from, to);
+    let rest = start_of(out.len(), n);
+    n + show_entries(book, range.start, range.count, from, to, &mut out[rest..])
+}
+
+// The same: nothing if there are none, by a test that the compiler puts in place.
 fn show_gap(
     book: &[u8],
     h: Header,
@@ -537,12 +567,10 @@ fn show_gap(
     ensures added { λ r. ⌜ Added (now (out .entry)) n (gapOf (bookOf (now (book .entry)) .alloc) from to) r (now (out .exit)) ⌝ }
     ensures few { λ r. ⌜ r ≤ n + 1 + 2 * (lowerBound to (bookOf (now (book .entry)) .alloc) - lowerBound from (bookOf (now (book .entry)) .alloc)) ⌝ }
 {
-    if to <= from {
-        return n;
+    if from < to {
+        return show_hole(book, h, at, from, to, out, n);
     }
-    let range = alloc_range(book, at.alloc, h.alloc as usize, from, to);
-    let rest = start_of(out.len(), n);
-    n + show_entries(book, range.start, range.count, from, to, &mut out[rest..])
+    n
 }
 
 // What the gaps between the runs give: the first n pairs, which are sorted.

