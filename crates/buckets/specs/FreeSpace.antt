@@ -13,6 +13,7 @@ use Rattle.book.specs.Book.{Bkey, Book, is}
 abbrev pub isRun : Bkey → Bool
 isRun k = is 11 25 k
 
+-- where such a run starts
 abbrev pub runStart : Bkey → ℕ
 runStart k = k .offset - k .size
 

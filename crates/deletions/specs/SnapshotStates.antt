@@ -14,6 +14,7 @@ use Rattle.states.specs.StateDistance.{snapLive, snapWillDelete, snapNoKeys, sn
 unfoldable pub hasSnapState : Bkey → Bool
 hasSnapState k = is 9 22 k && leb 60 (length (k .value))
 
+-- that word
 unfoldable pub snapState : Bkey → ℕ
 snapState k = leAt (k .value) 56 4
 
@@ -52,5 +53,6 @@ snapshotStateFindings b k =
     ++ when (not (subvolumeIsLive b k) && (liveChild b k 8 && liveChild b k 12)) (finding 34 (k .offset) 0))
     ++ when ((eqb (snapState k) snapNoKeys || eqb (snapState k) snapDeleted) && anyKey (accounted (k .offset)) (b .keys)) (finding 35 (k .offset) 0)
 
+-- each snapshot with a state whose offset is an id of 32 bits, in key order
 unfoldable pub snapshotStates : Book → List Finding
 snapshotStates b = each (λ _ k. only (hasSnapState k && leb (k .offset) 4294967295) (snapshotStateFindings b k)) 0 (b .keys)

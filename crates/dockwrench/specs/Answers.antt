@@ -38,21 +38,24 @@ unfoldable pub checkOf : Outcome → ℕ → ℕ → Checked
 checkOf (Outcome.accepted b) room words = checkBook b room words
 checkOf (Outcome.refused number place) room words = checked.Refused number place
 
--- the buffer: untouched by refusals 1 to 9; else "the whole findings that fit, from the first, other bytes untouched"
+-- the buffer of an accepted book: untouched where the work area is short, else "the whole findings that fit, from the first, other bytes untouched"
 unfoldable pub bookBuffer : Book → ℕ → List ℕ → List ℕ
 bookBuffer b words buffer = cond (workShort b words) buffer (put buffer (findingsOf b))
 
+-- the buffer after the main call: untouched by refusals 1 to 9
 unfoldable pub bufferAfter : Outcome → ℕ → List ℕ → List ℕ
 bufferAfter (Outcome.accepted b) words buffer = bookBuffer b words buffer
 bufferAfter (Outcome.refused number place) words buffer = buffer
 
--- the work area: untouched by refusals 1 to 9; else "every work word zero"
+-- n zeros: "every work word zero"
 unfoldable pub zeros : ℕ → List ℕ
 zeros n = replicate n 0
 
+-- the work area of an accepted book: untouched where it is short, else all zeros
 unfoldable pub bookWork : Book → List ℕ → List ℕ
 bookWork b work = cond (workShort b (length work)) work (zeros (length work))
 
+-- the work area after the main call: untouched by refusals 1 to 9
 unfoldable pub workAfter : Outcome → List ℕ → List ℕ
 workAfter (Outcome.accepted b) work = bookWork b work
 workAfter (Outcome.refused number place) work = work
@@ -64,6 +67,7 @@ unfoldable pub ancestorBy : Option (ℕ × ℕ) → Ancestor
 ancestorBy none = ancestor.NoRoot
 ancestorBy (some root) = ancestor.Root (root .0) (root .1)
 
+-- the answer of the ancestor question: "refuse by 1 to 8 with the same place"
 unfoldable pub ancestorOf : Outcome → ℕ → Ancestor
 ancestorOf (Outcome.accepted b) id = ancestorBy (rootOf (parentsOf b) id)
 ancestorOf (Outcome.refused number place) id = ancestor.Refused number place
@@ -73,6 +77,7 @@ unfoldable pub availabilityBy : Bool → Availability
 availabilityBy true = availability.Unavailable
 availabilityBy false = availability.Available
 
+-- the answer of the availability question, likewise
 unfoldable pub availabilityOf : Outcome → ℕ → Availability
 availabilityOf (Outcome.accepted b) id = availabilityBy (isUnavailable id (b .keys))
 availabilityOf (Outcome.refused number place) id = availability.Refused number place
@@ -85,16 +90,19 @@ pub record Answer : Type 0 where
   pub place : ℕ
   pub count : ℕ
 
+-- of the main call: "Answer 0: place 0, count of findings"; "Refusal 10 returns the full count"; "Refusals 1 to 9: count 0"
 unfoldable pub checkedAnswer : Checked → Answer
 checkedAnswer (checked.Found count) = record { number = 0; place = 0; count = count }
 checkedAnswer (checked.NoRoom count) = record { number = 10; place = 0; count = count }
 checkedAnswer (checked.Refused number place) = record { number = number; place = place; count = 0 }
 
+-- of the ancestor question: "or 11 with zeros"
 unfoldable pub ancestorAnswer : Ancestor → Answer
 ancestorAnswer (ancestor.Root root links) = record { number = 0; place = links; count = root }
 ancestorAnswer ancestor.NoRoot = record { number = 11; place = 0; count = 0 }
 ancestorAnswer (ancestor.Refused number place) = record { number = number; place = place; count = 0 }
 
+-- of the availability question: 1 for an id in the set
 unfoldable pub availabilityAnswer : Availability → Answer
 availabilityAnswer availability.Unavailable = record { number = 0; place = 0; count = 1 }
 availabilityAnswer availability.Available = record { number = 0; place = 0; count = 0 }

@@ -16,10 +16,11 @@ use Rattle.forest.specs.Lists.{_∈_, Distinct}
 unfoldable pub keysOf : ℕ → Book → List Bkey
 keysOf n b = keep (λ k. eqb (k .btree) n) (b .keys)
 
--- "A snapshot is a btree 9 key, its id the offset; a tree record is a btree 15 key, named by its offset."
+-- "A snapshot is a btree 9 key, its id the offset"
 abbrev pub snapshots : Book → List Bkey
 snapshots b = keysOf 9 b
 
+-- "a tree record is a btree 15 key, named by its offset"
 abbrev pub records : Book → List Bkey
 records b = keysOf 15 b
 

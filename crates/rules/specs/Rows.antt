@@ -17,6 +17,7 @@ pub record Row : Type 0 where
   pub given : List ℕ
   pub said : List ℕ
 
+-- the row of these
 abbrev pub row : List ℕ → List ℕ → Row
 row given said = record { given = given; said = said }
 

@@ -19,5 +19,6 @@ flagIsWrong k = cond (flagged k) (eqb (subvolumeWord k) 0) (not (eqb (subvolumeW
 unfoldable pub flagFindings : Bkey → List Finding
 flagFindings k = only (holds 9 22 20 k) (when (flagIsWrong k) (finding 36 (k .offset) (subvolumeWord k)))
 
+-- each snapshot, in key order
 unfoldable pub snapshotSubvolFlags : Book → List Finding
 snapshotSubvolFlags b = each (λ _ k. flagFindings k) 0 (b .keys)

@@ -43,6 +43,7 @@ subvolumeFindings b k =
     (each (λ _ s. when (liveSnapshotOf (k .offset) s) (finding 30 (s .offset) (k .offset))) 0 (b .keys)
     ++ each (λ _ t. when (treeOfSubvolume (k .offset) t) (finding 31 (t .offset) (k .offset))) 0 (b .keys))
 
+-- each unavailable subvolume, in key order
 unfoldable pub subvolumeStates : Book → List Finding
 subvolumeStates b = each (λ _ k. only (unavailable k) (subvolumeFindings b k)) 0 (b .keys)
 
