@@ -25,20 +25,12 @@ use book::Header;
 use book::KeyFront;
 use book::Places;
 use findings::emit_if;
-
-// Where the state words of values stand.
-const SUBVOL_STATE: usize = 40;
-
-const SNAP_STATE: usize = 56;
-
-// States of subvolumes and snapshots.
-const SUBVOL_LIVE: u32 = 0x4ad5_447e;
-
-const SNAP_WILL_DELETE: u32 = 0x3316_a8d2;
-
-const SNAP_NO_KEYS: u32 = 0x372b_5a01;
-
-const SNAP_DELETED: u32 = 0x7cd4_a225;
+use states::SNAP_DELETED;
+use states::SNAP_NO_KEYS;
+use states::SNAP_STATE;
+use states::SNAP_WILL_DELETE;
+use states::SUBVOL_LIVE;
+use states::SUBVOL_STATE;
 
 // Whether the key at byte p is a live subvolume.
 fn is_live_subvolume(book: &[u8], p: usize, f: KeyFront) -> bool

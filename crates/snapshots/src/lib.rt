@@ -29,13 +29,11 @@ use findings::emit;
 use findings::emit_if;
 use findings::start_of;
 use pairs::MaybeU64;
+use states::SUBVOL_DELETED;
+use states::SUBVOL_STATE;
 
-// Where the state and the parent of a subvolume stand, and the state of a deleted one.
-const SUBVOL_STATE: usize = 40;
-
+// Where the parent of a subvolume stands.
 const SUBVOL_FS_PARENT: usize = 20;
-
-const SUBVOL_DELETED: u32 = 0x3c6b_2d4c;
 
 // The finding of the key at byte p, if it is a snapshot whose subvolume flag, bit 1 of its flags, is wrong.
 fn show_flag(book: &[u8], p: usize, f: KeyFront, out: &mut [u8], n: usize) -> usize

@@ -24,16 +24,31 @@ pub struct Version(pub u16);
 const STATE_REQUIRED_FROM: u16 = 1063;
 
 // Where the state and pad words of values stand.
-const SUBVOL_STATE: usize = 40;
+pub const SUBVOL_STATE: usize = 40;
 
 const SUBVOL_PAD: usize = 44;
 
-const SNAP_STATE: usize = 56;
+pub const SNAP_STATE: usize = 56;
 
-// The state words of subvolumes: live, unlinked, deleted; and of snapshots: live, will_delete, no_keys, deleted.
-const SUBVOL_STATES: [u32; 3] = [0x4ad5_447e, 0x2d35_8e8f, 0x3c6b_2d4c];
+// The state words of subvolumes.
+pub const SUBVOL_LIVE: u32 = 0x4ad5_447e;
 
-const SNAP_STATES: [u32; 4] = [0x757c_47a2, 0x3316_a8d2, 0x372b_5a01, 0x7cd4_a225];
+pub const SUBVOL_UNLINKED: u32 = 0x2d35_8e8f;
+
+pub const SUBVOL_DELETED: u32 = 0x3c6b_2d4c;
+
+const SUBVOL_STATES: [u32; 3] = [SUBVOL_LIVE, SUBVOL_UNLINKED, SUBVOL_DELETED];
+
+// The state words of snapshots.
+pub const SNAP_LIVE: u32 = 0x757c_47a2;
+
+pub const SNAP_WILL_DELETE: u32 = 0x3316_a8d2;
+
+pub const SNAP_NO_KEYS: u32 = 0x372b_5a01;
+
+pub const SNAP_DELETED: u32 = 0x7cd4_a225;
+
+const SNAP_STATES: [u32; 4] = [SNAP_LIVE, SNAP_WILL_DELETE, SNAP_NO_KEYS, SNAP_DELETED];
 
 // Whether states must be set at a version, which is compared as one number.
 fn state_required(version: Version) -> bool

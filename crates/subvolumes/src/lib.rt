@@ -27,18 +27,11 @@ use book::KeyFront;
 use book::Places;
 use findings::emit;
 use findings::emit_if;
-
-// Where the state words of values stand.
-const SUBVOL_STATE: usize = 40;
-
-const SNAP_STATE: usize = 56;
-
-// States of subvolumes and snapshots.
-const SUBVOL_UNLINKED: u32 = 0x2d35_8e8f;
-
-const SUBVOL_DELETED: u32 = 0x3c6b_2d4c;
-
-const SNAP_LIVE: u32 = 0x757c_47a2;
+use states::SNAP_LIVE;
+use states::SNAP_STATE;
+use states::SUBVOL_DELETED;
+use states::SUBVOL_STATE;
+use states::SUBVOL_UNLINKED;
 
 // Whether the key at byte p is a subvolume that claims a snapshot.
 fn claims_snapshot(book: &[u8], p: usize, f: KeyFront) -> bool
