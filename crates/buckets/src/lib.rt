@@ -4,7 +4,7 @@ ghost use mathlib.Core.Bool.{cond};
 ghost use mathlib.Core.List.{_++_};
 ghost use Prim.Native.Nat.{_+_, _-_, _*_, _^_, _<_, _≤_, min, max};
 ghost use lib.ListN.{length, take};
-ghost use Rattle.findings.specs.Findings.{Found, Added, only, each};
+ghost use Rattle.findings.specs.Findings.{sink, Found, Added, only, each};
 ghost use Rattle.pairs.specs.Pairs.{pairsOf, Sorted};
 ghost use Rattle.book.specs.Maps.{lookup, lowerBound};
 ghost use Rattle.book.specs.Book.{
@@ -85,15 +85,24 @@ fn gen_at(
     i: usize,
     recorded: u8,
     out: &mut [u8],
+    counts: &mut [u64],
     n: usize,
 ) -> usize
     requires { ⌜ Rising gensTable (now book) start count × (i < 256) × (n < 2 ^ 62) ⌝ }
-    ensures added { λ r. ⌜ Added (now (out .entry)) n (genAt (gensFrom (now (book .entry)) count start) offset i recorded) r (now (out .exit)) ⌝ }
+    ensures added { λ r. ⌜ Added (sink (now (out .entry)) (now (counts .entry))) n (genAt (gensFrom (now (book .entry)) count start) offset i recorded) r (sink (now (out .exit)) (now (counts .exit))) ⌝ }
     ensures few { λ r. ⌜ r ≤ n + 1 ⌝ }
 {
     let bucket = offset % 0x100_0000_0000_0000 * 256 + (i as u64);
     let expected = generation(book, start, count, bucket);
-    emit_if(out, n, recorded != expected, 46, bucket, recorded as u64)
+    emit_if(
+        out,
+        counts,
+        n,
+        recorded != expected,
+        46,
+        bucket,
+        recorded as u64,
+    )
 }
 
 // What the first 256 bytes of a value at `offset` give.
@@ -104,16 +113,17 @@ fn gens_of_value(
     offset: u64,
     value: &[u8],
     out: &mut [u8],
+    counts: &mut [u64],
 ) -> usize
     requires { ⌜ Rising gensTable (now book) start count ⌝ }
-    ensures found { λ r. ⌜ Found (now (out .entry)) (each (genAt (gensFrom (now (book .entry)) count start) offset) 0 (take 256 (now (value .entry)))) r (now (out .exit)) ⌝ }
+    ensures found { λ r. ⌜ Found (sink (now (out .entry)) (now (counts .entry))) (each (genAt (gensFrom (now (book .entry)) count start) offset) 0 (take 256 (now (value .entry)))) r (sink (now (out .exit)) (now (counts .exit))) ⌝ }
     ensures few { λ r. ⌜ r ≤ 256 ⌝ }
 {
     let end = least(value.len(), 256);
     let mut n: usize = 0;
     let mut i: usize = 0;
     while i < end {
-        n = gen_at(book, start, count, offset, i, value[i], out, n);
+        n = gen_at(book, start, count, offset, i, value[i], out, counts, n);
         i += 1;
     }
     n
@@ -138,10 +148,11 @@ fn key_gens(
     p: usize,
     f: KeyFront,
     out: &mut [u8],
+    counts: &mut [u64],
     n: usize,
 ) -> usize
     requires { ⌜ Opened (now book) h at × AtKey (now book) p f × (n < 2 ^ 62) ⌝ }
-    ensures added { λ r. ⌜ Added (now (out .entry)) n (gensOfKey (bookOf (now (book .entry)) .gens) (keyAt (now (book .entry)) p)) r (now (out .exit)) ⌝ }
+    ensures added { λ r. ⌜ Added (sink (now (out .entry)) (now (counts .entry))) n (gensOfKey (bookOf (now (book .entry)) .gens) (keyAt (now (book .entry)) p)) r (sink (now (out .exit)) (now (counts .exit))) ⌝ }
     ensures few { λ r. ⌜ r ≤ n + 256 ⌝ }
 {
     let start = p + 28;
@@ -156,6 +167,7 @@ fn key_gens(
             offset,
             &book[start..end],
             &mut out[from..],
+            counts,
         )
 }
 
@@ -174,16 +186,17 @@ fn take_gens(
     p: usize,
     f: KeyFront,
     out: &mut [u8],
+    counts: &mut [u64],
     work: &mut [u64],
     c: Counts,
 ) -> Counts
     requires { ⌜ Opened (now book) h at × AtKey (now book) p f × (c .found < 2 ^ 62) × (2 * c .put + 2 ≤ length (now work)) ⌝ }
-    ensures added { λ r. ⌜ Added (now (out .entry)) (c .found) (keyGens (h .device) (bookOf (now (book .entry)) .gens) (keyAt (now (book .entry)) p)) (r .found) (now (out .exit)) ⌝ }
+    ensures added { λ r. ⌜ Added (sink (now (out .entry)) (now (counts .entry))) (c .found) (keyGens (h .device) (bookOf (now (book .entry)) .gens) (keyAt (now (book .entry)) p)) (r .found) (sink (now (out .exit)) (now (counts .exit))) ⌝ }
     ensures put { λ r. ⌜ pairsOf (now (work .exit)) (r .put) ≡ pairsOf (now (work .entry)) (c .put) ++ coverPair (h .device) p (keyAt (now (book .entry)) p) ⌝ }
     ensures few { λ r. ⌜ (r .found ≤ c .found + 256) × (r .put ≤ c .put + 1) ⌝ }
 {
     if is_gens(book, h.device, p, f) {
-        let found = key_gens(book, h, at, p, f, out, c.found);
+        let found = key_gens(book, h, at, p, f, out, counts, c.found);
         pairs::put_pair(work, c.put, walk::key_offset(book, p, f), 0);
         return Counts {
             found,
@@ -194,9 +207,16 @@ fn take_gens(
 }
 
 // What the bucket_gens keys of the device give, and a pair for each.
-fn gens_of_keys(book: &[u8], h: Header, at: Places, out: &mut [u8], work: &mut [u64]) -> Counts
+fn gens_of_keys(
+    book: &[u8],
+    h: Header,
+    at: Places,
+    out: &mut [u8],
+    counts: &mut [u64],
+    work: &mut [u64],
+) -> Counts
     requires { ⌜ Opened (now book) h at × (2 * h .keys ≤ length (now work)) ⌝ }
-    ensures found { λ r. ⌜ Found (now (out .entry)) (each (λ _ k. keyGens (h .device) (bookOf (now (book .entry)) .gens) k) 0 (bookOf (now (book .entry)) .keys)) (r .found) (now (out .exit)) ⌝ }
+    ensures found { λ r. ⌜ Found (sink (now (out .entry)) (now (counts .entry))) (each (λ _ k. keyGens (h .device) (bookOf (now (book .entry)) .gens) k) 0 (bookOf (now (book .entry)) .keys)) (r .found) (sink (now (out .exit)) (now (counts .exit))) ⌝ }
     ensures put { λ r. ⌜ pairsOf (now (work .exit)) (r .put) ≡ gather (coverPair (h .device)) (now (book .entry)) (h .keys) (at .keys) ⌝ }
     ensures few { λ r. ⌜ (r .found ≤ h .keys * 256) × (r .put ≤ h .keys) ⌝ }
 {
@@ -205,7 +225,7 @@ fn gens_of_keys(book: &[u8], h: Header, at: Places, out: &mut [u8], work: &mut [
     let mut p = at.keys;
     while 0 < left {
         let f = book::key_front(book, p);
-        c = take_gens(book, h, at, p, f, out, work, c);
+        c = take_gens(book, h, at, p, f, out, counts, work, c);
         p = p + 28 + f.len;
         left -= 1;
     }
@@ -213,9 +233,17 @@ fn gens_of_keys(book: &[u8], h: Header, at: Places, out: &mut [u8], work: &mut [
 }
 
 // What the entry of a gens table at byte p gives, where the first n pairs, which are sorted, are the offsets covered; m were found before.
-fn uncovered_at(book: &[u8], p: usize, work: &[u64], n: usize, out: &mut [u8], m: usize) -> usize
+fn uncovered_at(
+    book: &[u8],
+    p: usize,
+    work: &[u64],
+    n: usize,
+    out: &mut [u8],
+    counts: &mut [u64],
+    m: usize,
+) -> usize
     requires { ⌜ (p + 9 ≤ length (now book)) × (2 * n ≤ length (now work)) × Sorted (pairsOf (now work) n) × (m < 2 ^ 62) ⌝ }
-    ensures added { λ r. ⌜ Added (now (out .entry)) m (notCovered (pairsOf (now (work .entry)) n) (entryAt gensTable (now (book .entry)) p .first) (entryAt gensTable (now (book .entry)) p .rest)) r (now (out .exit)) ⌝ }
+    ensures added { λ r. ⌜ Added (sink (now (out .entry)) (now (counts .entry))) m (notCovered (pairsOf (now (work .entry)) n) (entryAt gensTable (now (book .entry)) p .first) (entryAt gensTable (now (book .entry)) p .rest)) r (sink (now (out .exit)) (now (counts .exit))) ⌝ }
     ensures few { λ r. ⌜ r ≤ m + 1 ⌝ }
 {
     let bucket = bits::be64(book, p);
@@ -223,6 +251,7 @@ fn uncovered_at(book: &[u8], p: usize, work: &[u64], n: usize, out: &mut [u8], m
     let covered = pairs::has_pair(work, n, bucket / 256, 0);
     emit_if(
         out,
+        counts,
         m,
         (generation != 0) & !covered,
         46,
@@ -239,16 +268,17 @@ fn show_uncovered(
     work: &[u64],
     n: usize,
     out: &mut [u8],
+    counts: &mut [u64],
 ) -> usize
     requires { ⌜ Rising gensTable (now book) start count × (count < 2 ^ 32) × (2 * n ≤ length (now work)) × Sorted (pairsOf (now work) n) ⌝ }
-    ensures found { λ r. ⌜ Found (now (out .entry)) (each (λ _ e. notCovered (pairsOf (now (work .entry)) n) (e .0) (e .1)) 0 (gensFrom (now (book .entry)) count start)) r (now (out .exit)) ⌝ }
+    ensures found { λ r. ⌜ Found (sink (now (out .entry)) (now (counts .entry))) (each (λ _ e. notCovered (pairsOf (now (work .entry)) n) (e .0) (e .1)) 0 (gensFrom (now (book .entry)) count start)) r (sink (now (out .exit)) (now (counts .exit))) ⌝ }
     ensures few { λ r. ⌜ r ≤ count ⌝ }
 {
     let mut found: usize = 0;
     let mut left = count;
     let mut p = start;
     while 0 < left {
-        found = uncovered_at(book, p, work, n, out, found);
+        found = uncovered_at(book, p, work, n, out, counts, found);
         p += 9;
         left -= 1;
     }
@@ -261,13 +291,14 @@ pub fn bucket_gens_against_alloc(
     h: Header,
     at: Places,
     out: &mut [u8],
+    counts: &mut [u64],
     work: &mut [u64],
 ) -> usize
     requires { ⌜ Opened (now book) h at × (2 * h .keys ≤ length (now work)) ⌝ }
-    ensures found { λ r. ⌜ Found (now (out .entry)) (bucketGensAgainstAlloc (bookOf (now (book .entry)))) r (now (out .exit)) ⌝ }
+    ensures found { λ r. ⌜ Found (sink (now (out .entry)) (now (counts .entry))) (bucketGensAgainstAlloc (bookOf (now (book .entry)))) r (sink (now (out .exit)) (now (counts .exit))) ⌝ }
     ensures few { λ r. ⌜ r ≤ h .keys * 256 + h .gens ⌝ }
 {
-    let keys = gens_of_keys(book, h, at, out, work);
+    let keys = gens_of_keys(book, h, at, out, counts, work);
     let n = keys.found;
     let covers = keys.put;
     sorting::sort_pairs(work, covers);
@@ -280,6 +311,7 @@ pub fn bucket_gens_against_alloc(
             work,
             covers,
             &mut out[from..],
+            counts,
         )
 }
 
@@ -417,10 +449,11 @@ fn show_set(
     start: u64,
     end: u64,
     out: &mut [u8],
+    counts: &mut [u64],
     n: usize,
 ) -> usize
     requires { ⌜ Opened (now book) h at × (start ≤ end) × (n < 2 ^ 62) ⌝ }
-    ensures added { λ r. ⌜ Added (now (out .entry)) n (setFindings (h .«first_bucket») start (usedBuckets (allocRange start end (bookOf (now (book .entry)) .alloc)))) r (now (out .exit)) ⌝ }
+    ensures added { λ r. ⌜ Added (sink (now (out .entry)) (now (counts .entry))) n (setFindings (h .«first_bucket») start (usedBuckets (allocRange start end (bookOf (now (book .entry)) .alloc)))) r (sink (now (out .exit)) (now (counts .exit))) ⌝ }
     ensures few { λ r. ⌜ r ≤ n + 1 ⌝ }
 {
     let range = alloc_range(book, at.alloc, h.alloc as usize, start, end);
@@ -430,6 +463,7 @@ fn show_set(
     let more = choose(early, 1, 0);
     emit_if(
         out,
+        counts,
         n,
         early | (0 < used.count),
         48,
@@ -439,16 +473,24 @@ fn show_set(
 }
 
 // What the run with the head k gives, after n findings.
-fn show_run(book: &[u8], h: Header, at: Places, k: KeyHead, out: &mut [u8], n: usize) -> usize
+fn show_run(
+    book: &[u8],
+    h: Header,
+    at: Places,
+    k: KeyHead,
+    out: &mut [u8],
+    counts: &mut [u64],
+    n: usize,
+) -> usize
     requires { ⌜ Opened (now book) h at × (n < 2 ^ 62) ⌝ }
-    ensures added { λ r. ⌜ Added (now (out .entry)) n (runFindings (bookOf (now (book .entry))) (keyOf (now (book .entry)) k)) r (now (out .exit)) ⌝ }
+    ensures added { λ r. ⌜ Added (sink (now (out .entry)) (now (counts .entry))) n (runFindings (bookOf (now (book .entry))) (keyOf (now (book .entry)) k)) r (sink (now (out .exit)) (now (counts .exit))) ⌝ }
     ensures few { λ r. ⌜ r ≤ n + 1 ⌝ }
 {
     let size = k.size as u64;
     if no_run(h, k) {
-        return emit(out, n, 47, k.offset, size);
+        return emit(out, counts, n, 47, k.offset, size);
     }
-    show_set(book, h, at, k.offset - size, k.offset, out, n)
+    show_set(book, h, at, k.offset - size, k.offset, out, counts, n)
 }
 
 // What the key at byte p with the front f gives, if it is a run: its findings after those counted, and its pair behind those counted.
@@ -459,17 +501,18 @@ fn take_run(
     p: usize,
     f: KeyFront,
     out: &mut [u8],
+    counts: &mut [u64],
     work: &mut [u64],
     c: Counts,
 ) -> Counts
     requires { ⌜ Opened (now book) h at × AtKey (now book) p f × (c .found < 2 ^ 62) × (2 * c .put + 2 ≤ length (now work)) ⌝ }
-    ensures added { λ r. ⌜ Added (now (out .entry)) (c .found) (only (isRun (keyAt (now (book .entry)) p)) (runFindings (bookOf (now (book .entry))) (keyAt (now (book .entry)) p))) (r .found) (now (out .exit)) ⌝ }
+    ensures added { λ r. ⌜ Added (sink (now (out .entry)) (now (counts .entry))) (c .found) (only (isRun (keyAt (now (book .entry)) p)) (runFindings (bookOf (now (book .entry))) (keyAt (now (book .entry)) p))) (r .found) (sink (now (out .exit)) (now (counts .exit))) ⌝ }
     ensures put { λ r. ⌜ pairsOf (now (work .exit)) (r .put) ≡ pairsOf (now (work .entry)) (c .put) ++ runPair (bookOf (now (book .entry))) p (keyAt (now (book .entry)) p) ⌝ }
     ensures few { λ r. ⌜ (r .found ≤ c .found + 1) × (r .put ≤ c .put + 1) ⌝ }
 {
     if (f.btree == 11) & (f.key_type == 25) {
         let k = book::key_head(book, p);
-        let found = show_run(book, h, at, k, out, c.found);
+        let found = show_run(book, h, at, k, out, counts, c.found);
         let put = put_run(h, k, work, c.put);
         return Counts { found, put };
     }
@@ -477,9 +520,16 @@ fn take_run(
 }
 
 // What the runs give, and a pair for each of the device, those of size 0 too.
-fn take_runs(book: &[u8], h: Header, at: Places, out: &mut [u8], work: &mut [u64]) -> Counts
+fn take_runs(
+    book: &[u8],
+    h: Header,
+    at: Places,
+    out: &mut [u8],
+    counts: &mut [u64],
+    work: &mut [u64],
+) -> Counts
     requires { ⌜ Opened (now book) h at × (2 * h .keys ≤ length (now work)) ⌝ }
-    ensures found { λ r. ⌜ Found (now (out .entry)) (each (λ _ k. only (isRun k) (runFindings (bookOf (now (book .entry))) k)) 0 (bookOf (now (book .entry)) .keys)) (r .found) (now (out .exit)) ⌝ }
+    ensures found { λ r. ⌜ Found (sink (now (out .entry)) (now (counts .entry))) (each (λ _ k. only (isRun k) (runFindings (bookOf (now (book .entry))) k)) 0 (bookOf (now (book .entry)) .keys)) (r .found) (sink (now (out .exit)) (now (counts .exit))) ⌝ }
     ensures put { λ r. ⌜ pairsOf (now (work .exit)) (r .put) ≡ gather (runPair (bookOf (now (book .entry)))) (now (book .entry)) (h .keys) (at .keys) ⌝ }
     ensures few { λ r. ⌜ (r .found ≤ h .keys) × (r .put ≤ h .keys) ⌝ }
 {
@@ -488,7 +538,7 @@ fn take_runs(book: &[u8], h: Header, at: Places, out: &mut [u8], work: &mut [u64
     let mut p = at.keys;
     while 0 < left {
         let f = book::key_front(book, p);
-        c = take_run(book, h, at, p, f, out, work, c);
+        c = take_run(book, h, at, p, f, out, counts, work, c);
         p = p + 28 + f.len;
         left -= 1;
     }
@@ -496,15 +546,15 @@ fn take_runs(book: &[u8], h: Header, at: Places, out: &mut [u8], work: &mut [u64
 }
 
 // What the alloc entry e gives in a gap of which the buckets up to `at` are passed, after n findings.
-fn show_entry(e: AllocEntry, at: u64, out: &mut [u8], n: usize) -> usize
+fn show_entry(e: AllocEntry, at: u64, out: &mut [u8], counts: &mut [u64], n: usize) -> usize
     requires { ⌜ n < 2 ^ 62 ⌝ }
-    ensures added { λ r. ⌜ Added (now (out .entry)) n (entryFindings at e) r (now (out .exit)) ⌝ }
+    ensures added { λ r. ⌜ Added (sink (now (out .entry)) (now (counts .entry))) n (entryFindings at e) r (sink (now (out .exit)) (now (counts .exit))) ⌝ }
     ensures few { λ r. ⌜ r ≤ n + 2 ⌝ }
 {
     let data_type = e.data_type;
     let free = is_free(data_type);
-    let m = emit_if(out, n, at < e.bucket, 50, at, e.bucket);
-    emit_if(out, m, free, 49, e.bucket, 0)
+    let m = emit_if(out, counts, n, at < e.bucket, 50, at, e.bucket);
+    emit_if(out, counts, m, free, 49, e.bucket, 0)
 }
 
 // What a gap from `from` up to `to` gives, whose alloc entries are the `count` ones from byte `start` on.
@@ -515,9 +565,10 @@ fn show_entries(
     from: u64,
     to: u64,
     out: &mut [u8],
+    counts: &mut [u64],
 ) -> usize
     requires { ⌜ (length (now book) ≤ 1048576) × (start + count * 10 ≤ length (now book)) × Below to (allocFrom (now book) count start) ⌝ }
-    ensures found { λ r. ⌜ Found (now (out .entry)) (gapFindings from (allocFrom (now (book .entry)) count start) to) r (now (out .exit)) ⌝ }
+    ensures found { λ r. ⌜ Found (sink (now (out .entry)) (now (counts .entry))) (gapFindings from (allocFrom (now (book .entry)) count start) to) r (sink (now (out .exit)) (now (counts .exit))) ⌝ }
     ensures few { λ r. ⌜ r ≤ 1 + 2 * count ⌝ }
 {
     let mut n: usize = 0;
@@ -526,12 +577,12 @@ fn show_entries(
     let mut p = start;
     while 0 < left {
         let e = tables::alloc_entry(book, p);
-        n = show_entry(e, at, out, n);
+        n = show_entry(e, at, out, counts, n);
         at = e.bucket + 1;
         p += 10;
         left -= 1;
     }
-    emit_if(out, n, at < to, 50, at, to)
+    emit_if(out, counts, n, at < to, 50, at, to)
 }
 
 // What the buckets from `from` up to `to`, which no run holds, give after n findings.
@@ -542,15 +593,25 @@ fn show_hole(
     from: u64,
     to: u64,
     out: &mut [u8],
+    counts: &mut [u64],
     n: usize,
 ) -> usize
     requires { ⌜ Opened (now book) h at × (n < 2 ^ 62) × (from < to) ⌝ }
-    ensures added { λ r. ⌜ Added (now (out .entry)) n (gapOf (bookOf (now (book .entry)) .alloc) from to) r (now (out .exit)) ⌝ }
+    ensures added { λ r. ⌜ Added (sink (now (out .entry)) (now (counts .entry))) n (gapOf (bookOf (now (book .entry)) .alloc) from to) r (sink (now (out .exit)) (now (counts .exit))) ⌝ }
     ensures few { λ r. ⌜ r ≤ n + 1 + 2 * (lowerBound to (bookOf (now (book .entry)) .alloc) - lowerBound from (bookOf (now (book .entry)) .alloc)) ⌝ }
 {
     let range = alloc_range(book, at.alloc, h.alloc as usize, from, to);
     let rest = start_of(out.len(), n);
-    n + show_entries(book, range.start, range.count, from, to, &mut out[rest..])
+    n
+        + show_entries(
+            book,
+            range.start,
+            range.count,
+            from,
+            to,
+            &mut out[rest..],
+            counts,
+        )
 }
 
 // The same: nothing if there are none, by a test that the compiler puts in place.
@@ -561,22 +622,31 @@ fn show_gap(
     from: u64,
     to: u64,
     out: &mut [u8],
+    counts: &mut [u64],
     n: usize,
 ) -> usize
     requires { ⌜ Opened (now book) h at × (n < 2 ^ 62) ⌝ }
-    ensures added { λ r. ⌜ Added (now (out .entry)) n (gapOf (bookOf (now (book .entry)) .alloc) from to) r (now (out .exit)) ⌝ }
+    ensures added { λ r. ⌜ Added (sink (now (out .entry)) (now (counts .entry))) n (gapOf (bookOf (now (book .entry)) .alloc) from to) r (sink (now (out .exit)) (now (counts .exit))) ⌝ }
     ensures few { λ r. ⌜ r ≤ n + 1 + 2 * (lowerBound to (bookOf (now (book .entry)) .alloc) - lowerBound from (bookOf (now (book .entry)) .alloc)) ⌝ }
 {
     if from < to {
-        return show_hole(book, h, at, from, to, out, n);
+        return show_hole(book, h, at, from, to, out, counts, n);
     }
     n
 }
 
 // What the gaps between the runs give: the first n pairs, which are sorted.
-fn show_gaps(book: &[u8], h: Header, at: Places, work: &[u64], n: usize, out: &mut [u8]) -> usize
+fn show_gaps(
+    book: &[u8],
+    h: Header,
+    at: Places,
+    work: &[u64],
+    n: usize,
+    out: &mut [u8],
+    counts: &mut [u64],
+) -> usize
     requires { ⌜ Opened (now book) h at × (n ≤ h .keys) × (2 * n ≤ length (now work)) × Fair (h .«first_bucket») (pairsOf (now work) n) ⌝ }
-    ensures found { λ r. ⌜ Found (now (out .entry)) (gapsFindings (bookOf (now (book .entry)) .alloc) (gaps (h .«first_bucket») (pairsOf (now (work .entry)) n) (h .buckets))) r (now (out .exit)) ⌝ }
+    ensures found { λ r. ⌜ Found (sink (now (out .entry)) (now (counts .entry))) (gapsFindings (bookOf (now (book .entry)) .alloc) (gaps (h .«first_bucket») (pairsOf (now (work .entry)) n) (h .buckets))) r (sink (now (out .exit)) (now (counts .exit))) ⌝ }
     ensures few { λ r. ⌜ r ≤ h .keys + 1 + 2 * h .alloc ⌝ }
 {
     let mut found: usize = 0;
@@ -586,23 +656,30 @@ fn show_gaps(book: &[u8], h: Header, at: Places, work: &[u64], n: usize, out: &m
         let q = 2 * i;
         let start = work[q];
         let end = work[q + 1];
-        found = show_gap(book, h, at, from, start, out, found);
+        found = show_gap(book, h, at, from, start, out, counts, found);
         from = most(from, end);
         i += 1;
     }
-    show_gap(book, h, at, from, h.buckets, out, found)
+    show_gap(book, h, at, from, h.buckets, out, counts, found)
 }
 
 // The findings of runs of free buckets, then of the gaps between them.
-pub fn free_space(book: &[u8], h: Header, at: Places, out: &mut [u8], work: &mut [u64]) -> usize
+pub fn free_space(
+    book: &[u8],
+    h: Header,
+    at: Places,
+    out: &mut [u8],
+    counts: &mut [u64],
+    work: &mut [u64],
+) -> usize
     requires { ⌜ Opened (now book) h at × (2 * h .keys ≤ length (now work)) ⌝ }
-    ensures found { λ r. ⌜ Found (now (out .entry)) (freeSpace (bookOf (now (book .entry)))) r (now (out .exit)) ⌝ }
+    ensures found { λ r. ⌜ Found (sink (now (out .entry)) (now (counts .entry))) (freeSpace (bookOf (now (book .entry)))) r (sink (now (out .exit)) (now (counts .exit))) ⌝ }
     ensures few { λ r. ⌜ r ≤ 2 * h .keys + 1 + 2 * h .alloc ⌝ }
 {
-    let runs = take_runs(book, h, at, out, work);
+    let runs = take_runs(book, h, at, out, counts, work);
     let n = runs.found;
     let m = runs.put;
     sorting::sort_pairs(work, m);
     let rest = start_of(out.len(), n);
-    n + show_gaps(book, h, at, work, m, &mut out[rest..])
+    n + show_gaps(book, h, at, work, m, &mut out[rest..], counts)
 }

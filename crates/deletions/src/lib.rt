@@ -6,7 +6,7 @@ ghost use Prim.Native.Nat.{_+_, _*_, _^_, _<_, _≤_};
 ghost use lib.ListN.{length};
 ghost use lib.Dec.{eqb, leb};
 ghost use Rattle.bits.specs.Bits.{leAt};
-ghost use Rattle.findings.specs.Findings.{finding, when, each, bytesOf, Found, Added};
+ghost use Rattle.findings.specs.Findings.{sink, finding, when, each, bytesOf, Found, Added};
 ghost use Rattle.pairs.specs.Pairs.{pair, pairsOf, Sorted, has};
 ghost use Rattle.book.specs.Book.{bookOf};
 ghost use Rattle.book.specs.Walk.{Opened};
@@ -114,28 +114,38 @@ fn show_will_delete(
     right: u32,
     offset: u64,
     out: &mut [u8],
+    counts: &mut [u64],
     m: usize,
 ) -> usize
     requires { ⌜ (2 * n ≤ length (now work)) × Sorted (pairsOf (now work) n) × (m < 2 ^ 61) ⌝ }
-    ensures added { λ r. ⌜ Added (now (out .entry)) m (willDelete (pairsOf (now (work .entry)) n) subvolume left right offset) r (now (out .exit)) ⌝ }
+    ensures added { λ r. ⌜ Added (sink (now (out .entry)) (now (counts .entry))) m (willDelete (pairsOf (now (work .entry)) n) subvolume left right offset) r (sink (now (out .exit)) (now (counts .exit))) ⌝ }
     ensures few { λ r. ⌜ r ≤ m + 2 ⌝ }
 {
     let live = pairs::has_pair(work, n, subvolume as u64, 1);
     let one = pairs::has_pair(work, n, left as u64, 0);
     let other = pairs::has_pair(work, n, right as u64, 0);
-    let found = emit_if(out, m, live, 33, offset, 0);
-    emit_if(out, found, !live & (one & other), 34, offset, 0)
+    let found = emit_if(out, counts, m, live, 33, offset, 0);
+    emit_if(out, counts, found, !live & (one & other), 34, offset, 0)
 }
 
 // The finding of a snapshot with this state, if it is one with no keys or deleted, by the first n pairs, which are sorted.
-fn show_has_data(work: &[u64], n: usize, state: u32, offset: u64, out: &mut [u8], m: usize) -> usize
+fn show_has_data(
+    work: &[u64],
+    n: usize,
+    state: u32,
+    offset: u64,
+    out: &mut [u8],
+    counts: &mut [u64],
+    m: usize,
+) -> usize
     requires { ⌜ (2 * n ≤ length (now work)) × Sorted (pairsOf (now work) n) × (m < 2 ^ 61) ⌝ }
-    ensures added { λ r. ⌜ Added (now (out .entry)) m (when ((eqb state snapNoKeys || eqb state snapDeleted) && has (pair offset 2) (pairsOf (now (work .entry)) n)) (finding 35 offset 0)) r (now (out .exit)) ⌝ }
+    ensures added { λ r. ⌜ Added (sink (now (out .entry)) (now (counts .entry))) m (when ((eqb state snapNoKeys || eqb state snapDeleted) && has (pair offset 2) (pairsOf (now (work .entry)) n)) (finding 35 offset 0)) r (sink (now (out .exit)) (now (counts .exit))) ⌝ }
     ensures few { λ r. ⌜ r ≤ m + 1 ⌝ }
 {
     let data = pairs::has_pair(work, n, offset, 2);
     emit_if(
         out,
+        counts,
         m,
         ((state == SNAP_NO_KEYS) | (state == SNAP_DELETED)) & data,
         35,
@@ -163,10 +173,11 @@ fn show_deleting(
     work: &[u64],
     n: usize,
     out: &mut [u8],
+    counts: &mut [u64],
     m: usize,
 ) -> usize
     requires { ⌜ AtKey (now book) p f × (60 ≤ f .len) × (2 * n ≤ length (now work)) × Sorted (pairsOf (now work) n) × (m < 2 ^ 61) ⌝ }
-    ensures added { λ r. ⌜ Added (now (out .entry)) m (deleting (pairsOf (now (work .entry)) n) (keyAt (now (book .entry)) p)) r (now (out .exit)) ⌝ }
+    ensures added { λ r. ⌜ Added (sink (now (out .entry)) (now (counts .entry))) m (deleting (pairsOf (now (work .entry)) n) (keyAt (now (book .entry)) p)) r (sink (now (out .exit)) (now (counts .exit))) ⌝ }
     ensures few { λ r. ⌜ r ≤ m + 2 ⌝ }
 {
     if walk::key_word(book, p, f, SNAP_STATE) == SNAP_WILL_DELETE {
@@ -174,7 +185,7 @@ fn show_deleting(
         let left = walk::key_word(book, p, f, 8);
         let right = walk::key_word(book, p, f, 12);
         let offset = walk::key_offset(book, p, f);
-        return show_will_delete(work, n, subvolume, left, right, offset, out, m);
+        return show_will_delete(work, n, subvolume, left, right, offset, out, counts, m);
     }
     m
 }
@@ -187,17 +198,18 @@ fn show_snapshot(
     work: &[u64],
     n: usize,
     out: &mut [u8],
+    counts: &mut [u64],
     m: usize,
 ) -> usize
     requires { ⌜ AtKey (now book) p f × (2 * n ≤ length (now work)) × Sorted (pairsOf (now work) n) × (m < 2 ^ 60) ⌝ }
-    ensures added { λ r. ⌜ Added (now (out .entry)) m (setFindings (pairsOf (now (work .entry)) n) (keyAt (now (book .entry)) p)) r (now (out .exit)) ⌝ }
+    ensures added { λ r. ⌜ Added (sink (now (out .entry)) (now (counts .entry))) m (setFindings (pairsOf (now (work .entry)) n) (keyAt (now (book .entry)) p)) r (sink (now (out .exit)) (now (counts .exit))) ⌝ }
     ensures few { λ r. ⌜ r ≤ m + 3 ⌝ }
 {
     if is_judged(book, p, f) {
-        let found = show_deleting(book, p, f, work, n, out, m);
+        let found = show_deleting(book, p, f, work, n, out, counts, m);
         let state = walk::key_word(book, p, f, SNAP_STATE);
         let offset = walk::key_offset(book, p, f);
-        return show_has_data(work, n, state, offset, out, found);
+        return show_has_data(work, n, state, offset, out, counts, found);
     }
     m
 }
@@ -210,9 +222,10 @@ fn show_snapshots(
     work: &[u64],
     n: usize,
     out: &mut [u8],
+    counts: &mut [u64],
 ) -> usize
     requires { ⌜ Opened (now book) h at × (2 * n ≤ length (now work)) × Sorted (pairsOf (now work) n) ⌝ }
-    ensures found { λ r. ⌜ Found (now (out .entry)) (each (λ _ k. setFindings (pairsOf (now (work .entry)) n) k) 0 (bookOf (now (book .entry)) .keys)) r (now (out .exit)) ⌝ }
+    ensures found { λ r. ⌜ Found (sink (now (out .entry)) (now (counts .entry))) (each (λ _ k. setFindings (pairsOf (now (work .entry)) n) k) 0 (bookOf (now (book .entry)) .keys)) r (sink (now (out .exit)) (now (counts .exit))) ⌝ }
     ensures few { λ r. ⌜ r ≤ h .keys * 3 ⌝ }
 {
     let mut found: usize = 0;
@@ -220,7 +233,7 @@ fn show_snapshots(
     let mut p = at.keys;
     while 0 < left {
         let f = book::key_front(book, p);
-        found = show_snapshot(book, p, f, work, n, out, found);
+        found = show_snapshot(book, p, f, work, n, out, counts, found);
         p = p + 28 + f.len;
         left -= 1;
     }
@@ -233,13 +246,14 @@ pub fn snapshot_states(
     h: Header,
     at: Places,
     out: &mut [u8],
+    counts: &mut [u64],
     work: &mut [u64],
 ) -> usize
     requires { ⌜ Opened (now book) h at × (2 * h .keys ≤ length (now work)) ⌝ }
-    ensures found { λ r. ⌜ Found (now (out .entry)) (snapshotStates (bookOf (now (book .entry)))) r (now (out .exit)) ⌝ }
+    ensures found { λ r. ⌜ Found (sink (now (out .entry)) (now (counts .entry))) (snapshotStates (bookOf (now (book .entry)))) r (sink (now (out .exit)) (now (counts .exit))) ⌝ }
     ensures few { λ r. ⌜ r ≤ h .keys * 3 ⌝ }
 {
     let n = put_sets(book, h, at, work);
     sorting::sort_pairs(work, n);
-    show_snapshots(book, h, at, work, n, out)
+    show_snapshots(book, h, at, work, n, out, counts)
 }

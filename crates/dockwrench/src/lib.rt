@@ -2,7 +2,7 @@
 ghost use mathlib.Core.Path.{_≡_};
 ghost use Prim.Native.Nat.{_+_, _*_, _^_, _<_, _≤_};
 ghost use lib.ListN.{length};
-ghost use Rattle.findings.specs.Findings.{Found};
+ghost use Rattle.findings.specs.Findings.{sink, Found};
 ghost use Rattle.rules.specs.Rules.{findingsOf};
 ghost use Rattle.book.specs.Book.{bookOf, parentsOf};
 ghost use Rattle.book.specs.Refusals.{parse};
@@ -66,13 +66,20 @@ fn zero_words(work: &mut [u64])
 }
 
 // All rules over an accepted book and a work area that is long enough, which is zeroed then.
-fn check_all(book: &[u8], h: Header, at: Places, findings: &mut [u8], work: &mut [u64]) -> usize
+fn check_all(
+    book: &[u8],
+    h: Header,
+    at: Places,
+    findings: &mut [u8],
+    counts: &mut [u64],
+    work: &mut [u64],
+) -> usize
     requires { ⌜ Opened (now book) h at × (2 * h .keys ≤ length (now work)) ⌝ }
-    ensures found { λ r. ⌜ Found (now (findings .entry)) (findingsOf (bookOf (now (book .entry)))) r (now (findings .exit)) ⌝ }
+    ensures found { λ r. ⌜ Found (sink (now (findings .entry)) (now (counts .entry))) (findingsOf (bookOf (now (book .entry)))) r (sink (now (findings .exit)) (now (counts .exit))) ⌝ }
     ensures work { λ _. ⌜ now (work .exit) ≡ zeros (length (now (work .entry))) ⌝ }
     ensures few { λ r. ⌜ r < 2 ^ 32 ⌝ }
 {
-    let count = judge::judge(book, h, at, findings, work);
+    let count = judge::judge(book, h, at, findings, counts, work);
     zero_words(work);
     count
 }
@@ -100,7 +107,8 @@ fn check_book(book: &[u8], h: Header, at: Places, findings: &mut [u8], work: &mu
         return Checked::Refused(9, 0);
     }
     let room = findings.len();
-    let count = check_all(book, h, at, findings, work);
+    let mut counts = [0u64; 0];
+    let count = check_all(book, h, at, findings, &mut counts, work);
     count_in(room, count)
 }
 

@@ -5,7 +5,7 @@ ghost use mathlib.Core.List.{[]};
 ghost use Prim.Native.Nat.{_+_, _<_, _≤_, _%_, _^_};
 ghost use lib.ListN.{length};
 ghost use Rattle.bits.specs.Bits.{leAt};
-ghost use Rattle.findings.specs.Findings.{Found, Added};
+ghost use Rattle.findings.specs.Findings.{sink, Found, Added};
 ghost use Rattle.book.specs.Book.{bkey};
 ghost use Rattle.fields.specs.CheckKeyDevice.{elsewhere, checkKeyDevice};
 ghost use Rattle.fields.specs.CheckKeyFields.{
@@ -103,13 +103,27 @@ fn elsewhere(h: KeyHead, device: u64) -> bool
 }
 
 // Kinds 1 and 2: a key of a btree that is filed by device, on another device than the book's.
-pub fn check_key_device(h: KeyHead, device: u64, i: u64, out: &mut [u8]) -> usize
-    ensures found { λ r. ⌜ Found (now (out .entry)) (checkKeyDevice device i (bkey h [])) r (now (out .exit)) ⌝ }
+pub fn check_key_device(
+    h: KeyHead,
+    device: u64,
+    i: u64,
+    out: &mut [u8],
+    counts: &mut [u64],
+) -> usize
+    ensures found { λ r. ⌜ Found (sink (now (out .entry)) (now (counts .entry))) (checkKeyDevice device i (bkey h [])) r (sink (now (out .exit)) (now (counts .exit))) ⌝ }
     ensures few { λ r. ⌜ r ≤ 2 ⌝ }
 {
     let away = elsewhere(h, device);
-    let n = findings::emit_if(out, 0, away & ((h.btree == 4) | (h.btree == 14)), 1, i, 0);
-    findings::emit_if(out, n, away & (h.btree == 13), 2, i, 0)
+    let n = findings::emit_if(
+        out,
+        counts,
+        0,
+        away & ((h.btree == 4) | (h.btree == 14)),
+        1,
+        i,
+        0,
+    );
+    findings::emit_if(out, counts, n, away & (h.btree == 13), 2, i, 0)
 }
 
 // Whether a table of btrees and types has a row of these.
@@ -168,14 +182,21 @@ fn minimum_value(h: KeyHead) -> usize
 }
 
 // Kinds 3 to 5: the size, the snapshot and the length of the value.
-fn check_head(h: KeyHead, value: &[u8], i: u64, out: &mut [u8], n: usize) -> usize
+fn check_head(
+    h: KeyHead,
+    value: &[u8],
+    i: u64,
+    out: &mut [u8],
+    counts: &mut [u64],
+    n: usize,
+) -> usize
     requires { ⌜ n < 2 ^ 62 ⌝ }
-    ensures added { λ r. ⌜ Added (now (out .entry)) n (checkHead i (bkey h (now (value .entry)))) r (now (out .exit)) ⌝ }
+    ensures added { λ r. ⌜ Added (sink (now (out .entry)) (now (counts .entry))) n (checkHead i (bkey h (now (value .entry)))) r (sink (now (out .exit)) (now (counts .exit))) ⌝ }
     ensures few { λ r. ⌜ r ≤ n + 3 ⌝ }
 {
-    let n = findings::emit_if(out, n, size_bad(h), 3, i, 0);
-    let n = findings::emit_if(out, n, snapshot_bad(h), 4, i, 0);
-    findings::emit_if(out, n, value.len() < minimum_value(h), 5, i, 0)
+    let n = findings::emit_if(out, counts, n, size_bad(h), 3, i, 0);
+    let n = findings::emit_if(out, counts, n, snapshot_bad(h), 4, i, 0);
+    findings::emit_if(out, counts, n, value.len() < minimum_value(h), 5, i, 0)
 }
 
 // The position's bytes: inode, offset and snapshot, the most significant first.
@@ -287,9 +308,16 @@ fn counters_bad(kind: u64, counters: usize) -> bool
 }
 
 // Kinds 6 to 8: an accounting key of kind nr_inodes, replicas or dev_data_type.
-fn check_accounting_key(h: KeyHead, value: &[u8], i: u64, out: &mut [u8], n: usize) -> usize
+fn check_accounting_key(
+    h: KeyHead,
+    value: &[u8],
+    i: u64,
+    out: &mut [u8],
+    counts: &mut [u64],
+    n: usize,
+) -> usize
     requires { ⌜ n < 2 ^ 62 ⌝ }
-    ensures added { λ r. ⌜ Added (now (out .entry)) n (checkAccountingKey i (bkey h (now (value .entry)))) r (now (out .exit)) ⌝ }
+    ensures added { λ r. ⌜ Added (sink (now (out .entry)) (now (counts .entry))) n (checkAccountingKey i (bkey h (now (value .entry)))) r (sink (now (out .exit)) (now (counts .exit))) ⌝ }
     ensures few { λ r. ⌜ r ≤ n + 3 ⌝ }
 {
     let kind = h.inode / 0x0100_0000_0000_0000;
@@ -297,16 +325,23 @@ fn check_accounting_key(h: KeyHead, value: &[u8], i: u64, out: &mut [u8], n: usi
         return n;
     }
     let bytes = accounting_position_bytes(h);
-    let n = findings::emit_if(out, n, junk_at_end(kind, &bytes), 6, i, 0);
+    let n = findings::emit_if(out, counts, n, junk_at_end(kind, &bytes), 6, i, 0);
     let refused = (kind == 2) & replicas_entry_refused(&bytes);
-    let n = findings::emit_if(out, n, refused, 7, i, 0);
-    findings::emit_if(out, n, counters_bad(kind, value.len() / 8), 8, i, 0)
+    let n = findings::emit_if(out, counts, n, refused, 7, i, 0);
+    findings::emit_if(out, counts, n, counters_bad(kind, value.len() / 8), 8, i, 0)
 }
 
 // Kinds 9 and 10: the third word of an inode's value.
-fn check_inode_v3_word(h: KeyHead, value: &[u8], i: u64, out: &mut [u8], n: usize) -> usize
+fn check_inode_v3_word(
+    h: KeyHead,
+    value: &[u8],
+    i: u64,
+    out: &mut [u8],
+    counts: &mut [u64],
+    n: usize,
+) -> usize
     requires { ⌜ n < 2 ^ 62 ⌝ }
-    ensures added { λ r. ⌜ Added (now (out .entry)) n (checkInodeV3Word i (bkey h (now (value .entry)))) r (now (out .exit)) ⌝ }
+    ensures added { λ r. ⌜ Added (sink (now (out .entry)) (now (counts .entry))) n (checkInodeV3Word i (bkey h (now (value .entry)))) r (sink (now (out .exit)) (now (counts .exit))) ⌝ }
     ensures few { λ r. ⌜ r ≤ n + 2 ⌝ }
 {
     if value.len() < 48 {
@@ -314,22 +349,29 @@ fn check_inode_v3_word(h: KeyHead, value: &[u8], i: u64, out: &mut [u8], n: usiz
     }
     let word = bits::le64(value, 16);
     let hash = word / 0x0010_0000 % 16;
-    let n = findings::emit_if(out, n, 4 <= hash, 9, i, 0);
+    let n = findings::emit_if(out, counts, n, 4 <= hash, 9, i, 0);
     let start = 2 * (word / 0x0001_0000_0000 % 16);
     let words = (value.len() / 8) as u64;
-    findings::emit_if(out, n, (start < 6) | (words < start), 10, i, 0)
+    findings::emit_if(out, counts, n, (start < 6) | (words < start), 10, i, 0)
 }
 
 // Kind 11: the pad word of a snapshot.
-fn check_snapshot_pad(h: KeyHead, value: &[u8], i: u64, out: &mut [u8], n: usize) -> usize
+fn check_snapshot_pad(
+    h: KeyHead,
+    value: &[u8],
+    i: u64,
+    out: &mut [u8],
+    counts: &mut [u64],
+    n: usize,
+) -> usize
     requires { ⌜ n < 2 ^ 62 ⌝ }
-    ensures added { λ r. ⌜ Added (now (out .entry)) n (checkSnapshotPad i (bkey h (now (value .entry)))) r (now (out .exit)) ⌝ }
+    ensures added { λ r. ⌜ Added (sink (now (out .entry)) (now (counts .entry))) n (checkSnapshotPad i (bkey h (now (value .entry)))) r (sink (now (out .exit)) (now (counts .exit))) ⌝ }
     ensures few { λ r. ⌜ r ≤ n + 1 ⌝ }
 {
     if value.len() < 64 {
         return n;
     }
-    findings::emit_if(out, n, bits::le32(value, 60) != 0, 11, i, 0)
+    findings::emit_if(out, counts, n, bits::le32(value, 60) != 0, 11, i, 0)
 }
 
 // Where the backpointers of an alloc_v4 value start, in words of 8 bytes, by its start field.
@@ -355,26 +397,48 @@ fn alloc_v4_bytes(value: &[u8]) -> usize
 }
 
 // Kind 12: the length of an alloc_v4 value.
-fn check_alloc_v4_value(h: KeyHead, value: &[u8], i: u64, out: &mut [u8], n: usize) -> usize
+fn check_alloc_v4_value(
+    h: KeyHead,
+    value: &[u8],
+    i: u64,
+    out: &mut [u8],
+    counts: &mut [u64],
+    n: usize,
+) -> usize
     requires { ⌜ n < 2 ^ 62 ⌝ }
-    ensures added { λ r. ⌜ Added (now (out .entry)) n (checkAllocV4Value i (bkey h (now (value .entry)))) r (now (out .exit)) ⌝ }
+    ensures added { λ r. ⌜ Added (sink (now (out .entry)) (now (counts .entry))) n (checkAllocV4Value i (bkey h (now (value .entry)))) r (sink (now (out .exit)) (now (counts .exit))) ⌝ }
     ensures few { λ r. ⌜ r ≤ n + 1 ⌝ }
 {
-    findings::emit_if(out, n, value.len() < alloc_v4_bytes(value), 12, i, 0)
+    findings::emit_if(
+        out,
+        counts,
+        n,
+        value.len() < alloc_v4_bytes(value),
+        12,
+        i,
+        0,
+    )
 }
 
 // Kinds 6 to 12, by the btree and the type.
-fn check_value(h: KeyHead, value: &[u8], i: u64, out: &mut [u8], n: usize) -> usize
+fn check_value(
+    h: KeyHead,
+    value: &[u8],
+    i: u64,
+    out: &mut [u8],
+    counts: &mut [u64],
+    n: usize,
+) -> usize
     requires { ⌜ n < 2 ^ 62 ⌝ }
-    ensures added { λ r. ⌜ Added (now (out .entry)) n (checkValue i (bkey h (now (value .entry)))) r (now (out .exit)) ⌝ }
+    ensures added { λ r. ⌜ Added (sink (now (out .entry)) (now (counts .entry))) n (checkValue i (bkey h (now (value .entry)))) r (sink (now (out .exit)) (now (counts .exit))) ⌝ }
     ensures few { λ r. ⌜ r ≤ n + 3 ⌝ }
 {
     let p = pair(h);
     match p {
-        0x1422 => check_accounting_key(h, value, i, out, n),
-        0x011d => check_inode_v3_word(h, value, i, out, n),
-        0x0916 => check_snapshot_pad(h, value, i, out, n),
-        0x041b => check_alloc_v4_value(h, value, i, out, n),
+        0x1422 => check_accounting_key(h, value, i, out, counts, n),
+        0x011d => check_inode_v3_word(h, value, i, out, counts, n),
+        0x0916 => check_snapshot_pad(h, value, i, out, counts, n),
+        0x041b => check_alloc_v4_value(h, value, i, out, counts, n),
         _ => n,
     }
 }
@@ -470,21 +534,34 @@ fn position_kind(h: KeyHead, value: &[u8]) -> u8
 }
 
 // Kinds 13 to 22, and 6 for the kinds btree and snapshot of accounting keys.
-fn check_position(h: KeyHead, value: &[u8], i: u64, out: &mut [u8], n: usize) -> usize
+fn check_position(
+    h: KeyHead,
+    value: &[u8],
+    i: u64,
+    out: &mut [u8],
+    counts: &mut [u64],
+    n: usize,
+) -> usize
     requires { ⌜ n < 2 ^ 62 ⌝ }
-    ensures added { λ r. ⌜ Added (now (out .entry)) n (checkPosition i (bkey h (now (value .entry)))) r (now (out .exit)) ⌝ }
+    ensures added { λ r. ⌜ Added (sink (now (out .entry)) (now (counts .entry))) n (checkPosition i (bkey h (now (value .entry)))) r (sink (now (out .exit)) (now (counts .exit))) ⌝ }
     ensures few { λ r. ⌜ r ≤ n + 1 ⌝ }
 {
     let kind = position_kind(h, value);
-    findings::emit_if(out, n, kind != 0, kind, i, 0)
+    findings::emit_if(out, counts, n, kind != 0, kind, i, 0)
 }
 
 // Kinds 3 to 22: what a key's own fields may not hold.
-pub fn check_key_fields(h: KeyHead, value: &[u8], i: u64, out: &mut [u8]) -> usize
-    ensures found { λ r. ⌜ Found (now (out .entry)) (checkKeyFields i (bkey h (now (value .entry)))) r (now (out .exit)) ⌝ }
+pub fn check_key_fields(
+    h: KeyHead,
+    value: &[u8],
+    i: u64,
+    out: &mut [u8],
+    counts: &mut [u64],
+) -> usize
+    ensures found { λ r. ⌜ Found (sink (now (out .entry)) (now (counts .entry))) (checkKeyFields i (bkey h (now (value .entry)))) r (sink (now (out .exit)) (now (counts .exit))) ⌝ }
     ensures few { λ r. ⌜ r ≤ 7 ⌝ }
 {
-    let n = check_head(h, value, i, out, 0);
-    let n = check_value(h, value, i, out, n);
-    check_position(h, value, i, out, n)
+    let n = check_head(h, value, i, out, counts, 0);
+    let n = check_value(h, value, i, out, counts, n);
+    check_position(h, value, i, out, counts, n)
 }

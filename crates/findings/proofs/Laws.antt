@@ -2,15 +2,16 @@
 use mathlib.Core.Path.{_≡_, refl, sym, ap, ap₂, _∙_}
 use mathlib.Core.Bool.{Bool, true, false}
 use mathlib.Core.List.{List, [], _∷_, _++_, append-assoc, append-nil}
-use Prim.Native.Nat.{ℕ, suc, _+_, _-_, _*_, _/_, _≤_, _<_}
+use Prim.Native.Nat.{ℕ, suc, _+_, _-_, _*_, _/_, _^_, _≤_, _<_}
 use native.Mathlib.Nat.{lt-of-not-le}
 use native.Mathlib.Decide.{decLe}
 use native.Mathlib.Omega.{arith}
-use lib.ListN.{length, take, drop, set, length-append, length-take, length-drop, take-append-drop, drop-of-length-le}
+use lib.ListN.{length, take, drop, getD, set, length-append, length-take, length-drop, take-append-drop, drop-of-length-le}
 use lib.Seq.{sets, sets-eq, take-all, take-length, drop-length, take-append-add, drop-append-add}
 use lib.Dec.{lit<}
 use borrow.Author.Tests.{le-leb, lt-leb}
-use Rattle.findings.specs.Findings.{Finding, finding, encode, bytesOf, put, start, putFrom, Found, Added, only}
+use Rattle.findings.specs.Findings.{Finding, finding, encode, bytesOf, put, start, putFrom, countAll, Counted, Sink, sink, Found, Added, only}
+use Rattle.findings.proofs.Counts.{count-all-append, length-count-all, counted}
 
 -- ---- put, one finding at a time
 
@@ -94,27 +95,29 @@ put-from-append o n fs gs =
 -- ---- what a rule's proof cites
 
 -- before the first finding
-pub none : (o : List ℕ) → Found o [] 0 o
-unfolding put
-none o = record { count = refl; buffer = refl }
+pub none : (o : Sink) → Found o [] 0 o
+unfolding put countAll
+none o = record { count = refl; buffer = refl; counts = refl }
 
 -- the first findings
-pub begin : {o o₁ : List ℕ} {fs : List Finding} {r : ℕ} → Added o 0 fs r o₁ → Found o fs r o₁
+pub begin : {o o₁ : Sink} {fs : List Finding} {r : ℕ} → Added o 0 fs r o₁ → Found o fs r o₁
 unfolding putFrom
-begin {o} {fs = fs} a = record { count = omega (arith, a .count); buffer = a .buffer ∙ sym (at-start o 0 fs 0 (omega arith)) }
+begin {o} {fs = fs} a = record { count = omega (arith, a .count); buffer = a .buffer ∙ sym (at-start (o .buffer) 0 fs 0 (omega arith)); counts = a .counts }
 
 -- after fs came gs
-pub more : {o o₁ o₂ : List ℕ} {fs gs : List Finding} {n r : ℕ} → Found o fs n o₁ → Added o₁ n gs r o₂ → Found o (fs ++ gs) r o₂
+pub more : {o o₁ o₂ : Sink} {fs gs : List Finding} {n r : ℕ} → Found o fs n o₁ → Added o₁ n gs r o₂ → Found o (fs ++ gs) r o₂
 more {o} {fs = fs} {gs = gs} h a = record {
   count = a .count ∙ ap (λ (k : ℕ). k + length gs) (h .count) ∙ sym (length-append fs gs);
-  buffer = a .buffer ∙ ap₂ (λ (b : List ℕ) (k : ℕ). putFrom b k gs) (h .buffer) (h .count) ∙ put-append fs gs o;
+  buffer = a .buffer ∙ ap₂ (λ (b : List ℕ) (k : ℕ). putFrom b k gs) (h .buffer) (h .count) ∙ put-append fs gs (o .buffer);
+  counts = a .counts ∙ ap (λ (c : List ℕ). countAll c gs) (h .counts) ∙ count-all-append fs gs (o .counts);
 }
 
 -- after fs, which came after n findings, came gs
-pub added-more : {o o₁ o₂ : List ℕ} {fs gs : List Finding} {n m r : ℕ} → Added o n fs m o₁ → Added o₁ m gs r o₂ → Added o n (fs ++ gs) r o₂
+pub added-more : {o o₁ o₂ : Sink} {fs gs : List Finding} {n m r : ℕ} → Added o n fs m o₁ → Added o₁ m gs r o₂ → Added o n (fs ++ gs) r o₂
 added-more {o} {fs = fs} {gs = gs} {n = n} h a = record {
   count = omega (arith, h .count, a .count, length-append fs gs);
-  buffer = a .buffer ∙ ap₂ (λ (b : List ℕ) (k : ℕ). putFrom b k gs) (h .buffer) (h .count) ∙ put-from-append o n fs gs;
+  buffer = a .buffer ∙ ap₂ (λ (b : List ℕ) (k : ℕ). putFrom b k gs) (h .buffer) (h .count) ∙ put-from-append (o .buffer) n fs gs;
+  counts = a .counts ∙ ap (λ (c : List ℕ). countAll c gs) (h .counts) ∙ count-all-append fs gs (o .counts);
 }
 
 -- the part of the buffer o from a on, as a callee is lent it, and the buffer when the part is back at ys
@@ -125,55 +128,67 @@ abbrev pub back : List ℕ → ℕ → List ℕ → List ℕ
 back o a ys = take a o ++ (ys ++ drop (length o - a) (drop a o))
 
 -- what was found in the part after n findings was added to the whole
-pub lent : (o : List ℕ) (a n : ℕ) {gs : List Finding} {r : ℕ} {ys : List ℕ}
-    → a ≡ start (length o) n → Found (part o a) gs r ys → Added o n gs (n + r) (back o a ys)
+pub lent : {c c′ : List ℕ} (o : List ℕ) (a n : ℕ) {gs : List Finding} {r : ℕ} {ys : List ℕ}
+    → a ≡ start (length o) n → Found (sink (part o a) c) gs r (sink ys c′) → Added (sink o c) n gs (n + r) (sink (back o a ys) c′)
 lent o a n {gs} {r} {ys} e h =
     let whole : part o a ≡ drop a o = take-all (length o - a) (drop a o) (omega (arith, length-drop a o)) in
     let rest : drop (length o - a) (drop a o) ≡ [] = drop-of-length-le (drop a o) {i = length o - a} (omega (arith, length-drop a o)) in
-    record { count = ap (λ (k : ℕ). n + k) (h .count); buffer = rw (rest, append-nil ys, h .buffer, whole) (at-start o n gs a e) }
+    record { count = ap (λ (k : ℕ). n + k) (h .count); buffer = rw (rest, append-nil ys, h .buffer, whole) (at-start o n gs a e); counts = h .counts }
 
 -- after the findings fs, a rule found gs in the part that was lent to it
-pub more-lent : {o o₁ ys : List ℕ} {fs gs : List Finding} (a n r : ℕ)
-    → a ≡ start (length o₁) n → Found o fs n o₁ → Found (part o₁ a) gs r ys → Found o (fs ++ gs) (n + r) (back o₁ a ys)
+pub more-lent : {o : Sink} {o₁ ys c₁ c₂ : List ℕ} {fs gs : List Finding} (a n r : ℕ)
+    → a ≡ start (length o₁) n → Found o fs n (sink o₁ c₁) → Found (sink (part o₁ a) c₁) gs r (sink ys c₂) → Found o (fs ++ gs) (n + r) (sink (back o₁ a ys) c₂)
 more-lent {o₁ = o₁} a n r e h g = more h (lent o₁ a n e g)
 
 -- after fs, which came after n findings, gs were found in the part that was lent
-pub added-lent : {o o₁ ys : List ℕ} {fs gs : List Finding} {n : ℕ} (a m r : ℕ)
-    → a ≡ start (length o₁) m → Added o n fs m o₁ → Found (part o₁ a) gs r ys → Added o n (fs ++ gs) (m + r) (back o₁ a ys)
+pub added-lent : {o : Sink} {o₁ ys c₁ c₂ : List ℕ} {fs gs : List Finding} {n : ℕ} (a m r : ℕ)
+    → a ≡ start (length o₁) m → Added o n fs m (sink o₁ c₁) → Found (sink (part o₁ a) c₁) gs r (sink ys c₂) → Added o n (fs ++ gs) (m + r) (sink (back o₁ a ys) c₂)
 added-lent {o₁ = o₁} a m r e h g = added-more h (lent o₁ a m e g)
 
 -- the same findings, said otherwise
-pub added-as : {o o′ : List ℕ} {n r : ℕ} {fs gs : List Finding} → fs ≡ gs → Added o n fs r o′ → Added o n gs r o′
+pub added-as : {o o′ : Sink} {n r : ℕ} {fs gs : List Finding} → fs ≡ gs → Added o n fs r o′ → Added o n gs r o′
 added-as e a = rw e at a
 
--- where the findings are none: buffer and count stay
-pub added-nil : {o : List ℕ} {n : ℕ} {fs : List Finding} → fs ≡ [] → Added o n fs n o
-unfolding putFrom put
-added-nil {o} {n} e = rw e (record { count = omega arith; buffer = sym (take-append-drop (start (length o) n) o) })
+-- where the findings are none: sink and count stay
+pub added-nil : {o : Sink} {n : ℕ} {fs : List Finding} → fs ≡ [] → Added o n fs n o
+unfolding putFrom put countAll
+added-nil {o} {n} e = rw e (record { count = omega arith; buffer = sym (take-append-drop (start (length (o .buffer)) n) (o .buffer)); counts = refl })
 
 -- where the buffer has no room for them: it stays
-pub added-full : {o : List ℕ} {n : ℕ} {fs : List Finding} → length o / 17 ≤ n → Added o n fs (n + length fs) o
+pub added-full : {o c : List ℕ} {n : ℕ} {fs : List Finding} → length o / 17 ≤ n → Added (sink o c) n fs (n + length fs) (sink o (countAll c fs))
 unfolding putFrom
-added-full {o} {n} {fs} h =
+added-full {o} {n = n} {fs = fs} h =
     let at = start (length o) n in
     record {
       count = refl;
       buffer = sym (ap (λ (l : List ℕ). take at o ++ l) (put-full (drop at o) fs (omega (arith, length-drop at o))) ∙ take-append-drop at o);
+      counts = refl;
     }
 
 -- where a test held, and where it failed
-pub added-only : {o o′ : List ℕ} {n r : ℕ} {fs : List Finding} {test b : Bool} → b ≡ test → b ≡ true → Added o n fs r o′ → Added o n (only test fs) r o′
+pub added-only : {o o′ : Sink} {n r : ℕ} {fs : List Finding} {test b : Bool} → b ≡ test → b ≡ true → Added o n fs r o′ → Added o n (only test fs) r o′
 unfolding only
 added-only e h a = rw (sym e ∙ h) a
 
-pub added-not : {o : List ℕ} {n : ℕ} {test b : Bool} (fs : List Finding) → b ≡ test → b ≡ false → Added o n (only test fs) n o
+pub added-not : {o : Sink} {n : ℕ} {test b : Bool} (fs : List Finding) → b ≡ test → b ≡ false → Added o n (only test fs) n o
 unfolding only
 added-not fs e h = added-nil (rw (sym e ∙ h))
 
 -- the same findings, said otherwise
-pub found-as : {o o′ : List ℕ} {r : ℕ} {fs gs : List Finding} → fs ≡ gs → Found o fs r o′ → Found o gs r o′
+pub found-as : {o o′ : Sink} {r : ℕ} {fs gs : List Finding} → fs ≡ gs → Found o fs r o′ → Found o gs r o′
 found-as e h = rw e at h
 
 -- the buffer keeps its length
-pub found-length : {o o′ : List ℕ} {fs : List Finding} {r : ℕ} → Found o fs r o′ → length o′ ≡ length o
-found-length {o} {fs = fs} h = ap length (h .buffer) ∙ length-put fs o
+pub found-length : {o o′ : Sink} {fs : List Finding} {r : ℕ} → Found o fs r o′ → length (o′ .buffer) ≡ length (o .buffer)
+found-length {o} {fs = fs} h = ap length (h .buffer) ∙ length-put fs (o .buffer)
+
+-- the counts keep theirs
+pub counts-length : {o o′ : Sink} {fs : List Finding} {r : ℕ} → Found o fs r o′ → length (o′ .counts) ≡ length (o .counts)
+counts-length {o} {fs = fs} h = ap length (h .counts) ∙ length-count-all fs (o .counts)
+
+pub added-counts : {o o′ : Sink} {fs : List Finding} {n r : ℕ} → Added o n fs r o′ → length (o′ .counts) ≡ length (o .counts)
+added-counts {o} {fs = fs} a = ap length (a .counts) ∙ length-count-all fs (o .counts)
+
+-- where the findings are fewer than 2^64, no count that was 0 wraps
+pub found-counted : {o o′ : Sink} {fs : List Finding} {r : ℕ} → Found o fs r o′ → r < 2 ^ 64 → Counted (o .counts) fs (o′ .counts)
+found-counted {o} {fs = fs} h few k l z = ap (λ (c : List ℕ). getD c k 0) (h .counts) ∙ counted fs (o .counts) (omega (arith, h .count)) k l z

@@ -8,27 +8,27 @@ use native.Mathlib.Omega.{arith}
 use lib.ListN.{length, drop, getD, drop-of-length-le}
 use lib.Seq.{drop-cons}
 use borrow.Author.Needs.{needs}
-use Rattle.findings.specs.Findings.{Finding, start, Found, Added, only, each, keep}
-use Rattle.findings.proofs.Laws.{none, begin, more, more-lent, added-more, added-lent, added-only, added-not, lent, part, back, found-length}
+use Rattle.findings.specs.Findings.{Finding, start, Sink, sink, Found, Added, only, each, keep}
+use Rattle.findings.proofs.Laws.{none, begin, more, more-lent, added-more, added-lent, added-only, added-not, lent, part, back, found-length, counts-length}
 
 -- ---- the walk
 
--- of the findings `all` those before `rest` are found: n of them, and the buffer, which was o, is o′ now
-pub record Begun (all : List Finding) (o : List ℕ) (rest : List Finding) (n : ℕ) (o′ : List ℕ) : Type 0 where
+-- of the findings `all` those before `rest` are found: n of them, and the sink, which was o, is o′ now
+pub record Begun (all : List Finding) (o : Sink) (rest : List Finding) (n : ℕ) (o′ : Sink) : Type 0 where
   pub passed : List Finding
   pub found : Found o passed n o′
   pub whole : all ≡ passed ++ rest
 
 -- the walk over the items `all`, of which `rest` are left, from index i on
-abbrev pub Walk : {A : Type 0} → (ℕ → A → List Finding) → List A → List ℕ → ℕ → List A → ℕ → List ℕ → Type 0
+abbrev pub Walk : {A : Type 0} → (ℕ → A → List Finding) → List A → Sink → ℕ → List A → ℕ → Sink → Type 0
 Walk at all o i rest n o′ = Begun (each at 0 all) o (each at i rest) n o′
 
 -- before the first finding
-pub first : {all : List Finding} {o : List ℕ} → Begun all o all 0 o
+pub first : {all : List Finding} {o : Sink} → Begun all o all 0 o
 first {o = o} = record { passed = []; found = none o; whole = refl }
 
 -- a turn: of what was left came fs, and gs are left now
-pub turn : {all rest fs gs : List Finding} {o o₁ o₂ : List ℕ} {n r : ℕ} → Begun all o rest n o₁ → Added o₁ n fs r o₂ → rest ≡ fs ++ gs → Begun all o gs r o₂
+pub turn : {all rest fs gs : List Finding} {o o₁ o₂ : Sink} {n r : ℕ} → Begun all o rest n o₁ → Added o₁ n fs r o₂ → rest ≡ fs ++ gs → Begun all o gs r o₂
 turn {fs = fs} {gs = gs} b a e =
     record {
       passed = b .passed ++ fs;
@@ -37,17 +37,21 @@ turn {fs = fs} {gs = gs} b a e =
     }
 
 -- the same where they were put into the part of the buffer that was lent for them
-pub turn-lent : {all rest fs gs : List Finding} {o o₁ ys : List ℕ} (a n r : ℕ)
-    → a ≡ start (length o₁) n → Begun all o rest n o₁ → Found (part o₁ a) fs r ys → rest ≡ fs ++ gs → Begun all o gs (n + r) (back o₁ a ys)
+pub turn-lent : {all rest fs gs : List Finding} {o : Sink} {o₁ ys c₁ c₂ : List ℕ} (a n r : ℕ)
+    → a ≡ start (length o₁) n → Begun all o rest n (sink o₁ c₁) → Found (sink (part o₁ a) c₁) fs r (sink ys c₂) → rest ≡ fs ++ gs → Begun all o gs (n + r) (sink (back o₁ a ys) c₂)
 turn-lent {o₁ = o₁} a n r s b h e = turn b (lent o₁ a n s h) e
 
 -- the end: nothing is left
-pub last : {all rest : List Finding} {o o′ : List ℕ} {n : ℕ} → Begun all o rest n o′ → rest ≡ [] → Found o all n o′
+pub last : {all rest : List Finding} {o o′ : Sink} {n : ℕ} → Begun all o rest n o′ → rest ≡ [] → Found o all n o′
 last b e = rw (b .whole, e, append-nil) (b .found)
 
 -- the buffer keeps its length
-pub begun-length : {all rest : List Finding} {o o′ : List ℕ} {n : ℕ} → Begun all o rest n o′ → length o′ ≡ length o
+pub begun-length : {all rest : List Finding} {o o′ : Sink} {n : ℕ} → Begun all o rest n o′ → length (o′ .buffer) ≡ length (o .buffer)
 begun-length b = found-length (b .found)
+
+-- the counts keep theirs
+pub begun-counts : {all rest : List Finding} {o o′ : Sink} {n : ℕ} → Begun all o rest n o′ → length (o′ .counts) ≡ length (o .counts)
+begun-counts b = counts-length (b .found)
 
 -- ---- what is left, one item on
 
@@ -105,12 +109,12 @@ pub drop-past : {A : Type 0} (xs : List A) (i : ℕ) → length xs ≤ i → dro
 drop-past xs i h = drop-of-length-le xs {i = i} h
 
 -- a turn of a loop by index over a slice, and the same in the part that was lent
-module _ {all : List Finding} {o o₁ : List ℕ} (at : ℕ → ℕ → List Finding) (xs : List ℕ) (i : ℕ) (within : i < length xs) where
-  pub turn-at : {o₂ : List ℕ} {n r : ℕ} → Begun all o (each at i (drop i xs)) n o₁ → Added o₁ n (at i (getD xs i 0)) r o₂ → Begun all o (each at (i + 1) (drop (i + 1) xs)) r o₂
+module _ {all : List Finding} {o : Sink} (at : ℕ → ℕ → List Finding) (xs : List ℕ) (i : ℕ) (within : i < length xs) where
+  pub turn-at : {o₁ o₂ : Sink} {n r : ℕ} → Begun all o (each at i (drop i xs)) n o₁ → Added o₁ n (at i (getD xs i 0)) r o₂ → Begun all o (each at (i + 1) (drop (i + 1) xs)) r o₂
   turn-at b a = turn b a (each-cons at i (drop-at xs i 0 within))
 
-  pub turn-at-lent : {ys : List ℕ} (a n r : ℕ) → a ≡ start (length o₁) n → Begun all o (each at i (drop i xs)) n o₁ → Found (part o₁ a) (at i (getD xs i 0)) r ys
-      → Begun all o (each at (i + 1) (drop (i + 1) xs)) (n + r) (back o₁ a ys)
+  pub turn-at-lent : {o₁ ys c₁ c₂ : List ℕ} (a n r : ℕ) → a ≡ start (length o₁) n → Begun all o (each at i (drop i xs)) n (sink o₁ c₁) → Found (sink (part o₁ a) c₁) (at i (getD xs i 0)) r (sink ys c₂)
+      → Begun all o (each at (i + 1) (drop (i + 1) xs)) (n + r) (sink (back o₁ a ys) c₂)
   turn-at-lent a n r s b h = turn-lent a n r s b h (each-cons at i (drop-at xs i 0 within))
 
 -- what answers the needs of a rule

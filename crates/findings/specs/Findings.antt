@@ -2,9 +2,9 @@
 use mathlib.Core.Path.{_≡_}
 use mathlib.Core.Bool.{Bool, true, false, cond}
 use mathlib.Core.List.{List, [], _∷_, _++_}
-use Prim.Native.Nat.{ℕ, zero, suc, _+_, _*_, _/_, _%_, _^_, min}
-use lib.ListN.{length, take, drop}
-use lib.Dec.{leb}
+use Prim.Native.Nat.{ℕ, zero, suc, _+_, _*_, _/_, _%_, _^_, _<_, min}
+use lib.ListN.{length, take, drop, getD, set}
+use lib.Dec.{leb, eqb}
 
 -- a finding: its kind, and the two numbers that it names
 pub record Finding : Type 0 where
@@ -43,15 +43,44 @@ start len n = min (17 * n) len
 unfoldable pub putFrom : List ℕ → ℕ → List Finding → List ℕ
 putFrom o n fs = take (start (length o) n) o ++ put (drop (start (length o) n) o) fs
 
--- a rule found fs: "the full count" r, fitting or not, and the buffer, which was o and is o′ now
-pub record Found (o : List ℕ) (fs : List Finding) (r : ℕ) (o′ : List ℕ) : Type 0 where
-  pub count : r ≡ length fs
-  pub buffer : o′ ≡ put o fs
+-- the counts by kind c with n more of kind k, where they have a place for it; a count wraps at 2^64, so that no bound has to be carried
+unfoldable pub bump : List ℕ → ℕ → ℕ → List ℕ
+bump c k n = set c k ((getD c k 0 + n) % 2 ^ 64)
 
--- after n findings came fs: the count is r now, and the buffer, which was o, is o′
-pub record Added (o : List ℕ) (n : ℕ) (fs : List Finding) (r : ℕ) (o′ : List ℕ) : Type 0 where
+-- the counts by kind c with those of the findings
+unfoldable pub countAll : List ℕ → List Finding → List ℕ
+countAll c [] = c
+countAll c (f ∷ fs) = countAll (bump c (f .kind) 1) fs
+
+-- how many of the findings are of kind k
+unfoldable pub countOf : ℕ → List Finding → ℕ
+countOf k [] = 0
+countOf k (f ∷ fs) = cond (eqb k (f .kind)) (suc (countOf k fs)) (countOf k fs)
+
+-- the counts, which were c and are c′ now, have each kind's number of findings, where they have a place for the kind and it was 0
+abbrev pub Counted : List ℕ → List Finding → List ℕ → Type 0
+Counted c fs c′ = (k : ℕ) → k < length c → getD c k 0 ≡ 0 → getD c′ k 0 ≡ countOf k fs
+
+-- what findings go into: the buffer, and the counts by kind, the count of kind k at place k
+pub record Sink : Type 0 where
+  pub buffer : List ℕ
+  pub counts : List ℕ
+
+-- the sink of a buffer and counts
+abbrev pub sink : List ℕ → List ℕ → Sink
+sink b c = record { buffer = b; counts = c }
+
+-- a rule found fs: "the full count" r, fitting or not, and the sink, which was o and is o′ now
+pub record Found (o : Sink) (fs : List Finding) (r : ℕ) (o′ : Sink) : Type 0 where
+  pub count : r ≡ length fs
+  pub buffer : o′ .buffer ≡ put (o .buffer) fs
+  pub counts : o′ .counts ≡ countAll (o .counts) fs
+
+-- after n findings came fs: the count is r now, and the sink, which was o, is o′
+pub record Added (o : Sink) (n : ℕ) (fs : List Finding) (r : ℕ) (o′ : Sink) : Type 0 where
   pub count : r ≡ n + length fs
-  pub buffer : o′ ≡ putFrom o n fs
+  pub buffer : o′ .buffer ≡ putFrom (o .buffer) n fs
+  pub counts : o′ .counts ≡ countAll (o .counts) fs
 
 -- one finding where the test holds, else none
 unfoldable pub when : Bool → Finding → List Finding

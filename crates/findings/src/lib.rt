@@ -4,7 +4,7 @@ ghost use mathlib.Core.List.{[], _∷_};
 ghost use Prim.Native.Nat.{_+_, _<_, _≤_, _^_};
 ghost use lib.ListN.{length};
 ghost use lib.Seq.{sets};
-ghost use Rattle.findings.specs.Findings.{finding, bytesOf, put, start, when, Added};
+ghost use Rattle.findings.specs.Findings.{finding, bytesOf, put, start, when, bump, sink, Added};
 
 // Where finding number n begins in a buffer of len bytes: the part of the buffer that is left for it and those after it.
 pub fn start_of(len: usize, n: usize) -> usize
@@ -40,24 +40,50 @@ fn put_first(out: &mut [u8], kind: u8, subject: u64, object: u64)
     put_word(out, 9, object);
 }
 
-// Writes finding number n, if it fits whole, and returns the count with it.
-pub fn emit(out: &mut [u8], n: usize, kind: u8, subject: u64, object: u64) -> usize
+// Some more of this kind, where the counts have a place for it.
+pub fn count(counts: &mut [u64], kind: u8, more: u64)
+    ensures { λ _. ⌜ now (counts .exit) ≡ bump (now (counts .entry)) kind more ⌝ }
+{
+    let k = kind as usize;
+    if k < counts.len() {
+        counts[k] = std::num::wrapping_add_u64(counts[k], more);
+    }
+}
+
+// Writes finding number n, if it fits whole, counts it, and returns the count of all with it.
+pub fn emit(
+    out: &mut [u8],
+    counts: &mut [u64],
+    n: usize,
+    kind: u8,
+    subject: u64,
+    object: u64,
+) -> usize
     requires { ⌜ n < 2 ^ 63 ⌝ }
-    ensures { λ r. ⌜ Added (now (out .entry)) n (finding kind subject object ∷ []) r (now (out .exit)) ⌝ }
+    ensures { λ r. ⌜ Added (sink (now (out .entry)) (now (counts .entry))) n (finding kind subject object ∷ []) r (sink (now (out .exit)) (now (counts .exit))) ⌝ }
 {
     let at = start_of(out.len(), n);
     put_first(&mut out[at..], kind, subject, object);
+    count(counts, kind, 1);
     n + 1
 }
 
 // The same if `yes` holds; else it writes nothing and returns n.
-pub fn emit_if(out: &mut [u8], n: usize, yes: bool, kind: u8, subject: u64, object: u64) -> usize
+pub fn emit_if(
+    out: &mut [u8],
+    counts: &mut [u64],
+    n: usize,
+    yes: bool,
+    kind: u8,
+    subject: u64,
+    object: u64,
+) -> usize
     requires { ⌜ n < 2 ^ 63 ⌝ }
-    ensures added { λ r. ⌜ Added (now (out .entry)) n (when yes (finding kind subject object)) r (now (out .exit)) ⌝ }
+    ensures added { λ r. ⌜ Added (sink (now (out .entry)) (now (counts .entry))) n (when yes (finding kind subject object)) r (sink (now (out .exit)) (now (counts .exit))) ⌝ }
     ensures few { λ r. ⌜ r ≤ n + 1 ⌝ }
 {
     if yes {
-        return emit(out, n, kind, subject, object);
+        return emit(out, counts, n, kind, subject, object);
     }
     n
 }

@@ -6,7 +6,7 @@ use mathlib.Core.List.{List, [], _∷_, _++_, append-assoc}
 use lib.ListN.{length, take, drop}
 use lib.Dec.{eqb}
 use borrow.Author.Tests.{eqb-true, not-false}
-use Rattle.findings.specs.Findings.{Finding, start, put, Found, each}
+use Rattle.findings.specs.Findings.{Finding, start, put, countAll, Sink, sink, Found, each}
 use Rattle.findings.proofs.Laws.{part, back, more-lent, found-as}
 use Rattle.book.specs.declared.Header.{Header}
 use Rattle.book.specs.declared.Places.{Places}
@@ -27,8 +27,9 @@ use Rattle.judge.specs.Present.{withBtree, presentWith}
 use Rattle.judge.specs.Steps.{keyRules, subvolumeRules, snapshotRules, firstRules, lastRules, acrossRules}
 
 -- three rules, the second and the third in what the ones before leave of the buffer
-pub three-lent : {o o₁ ys zs : List ℕ} {fs gs hs : List Finding} (s t a b r : ℕ) → s ≡ start (length o₁) a → t ≡ start (length (back o₁ s ys)) (a + b)
-    → Found o fs a o₁ → Found (part o₁ s) gs b ys → Found (part (back o₁ s ys) t) hs r zs → Found o (fs ++ (gs ++ hs)) (a + b + r) (back (back o₁ s ys) t zs)
+pub three-lent : {o : Sink} {o₁ ys zs c₁ c₂ c₃ : List ℕ} {fs gs hs : List Finding} (s t a b r : ℕ) → s ≡ start (length o₁) a → t ≡ start (length (back o₁ s ys)) (a + b)
+    → Found o fs a (sink o₁ c₁) → Found (sink (part o₁ s) c₁) gs b (sink ys c₂) → Found (sink (part (back o₁ s ys) t) c₂) hs r (sink zs c₃)
+    → Found o (fs ++ (gs ++ hs)) (a + b + r) (sink (back (back o₁ s ys) t zs) c₃)
 three-lent {fs = fs} {gs = gs} {hs = hs} s t a b r from from₂ f g h = found-as (append-assoc fs gs hs) (more-lent t (a + b) r from₂ (more-lent s a b from f g) h)
 
 -- the key at byte p, by its head and the part of the book that is lent as its value
@@ -50,9 +51,9 @@ pub keys-next : (s : List ℕ) (n p : ℕ) {e : ℕ} → 0 < n → KeysFit s n p
 keys-next s n p h fit e = rw e (step s n p h fit .keys)
 
 -- nothing is found, and nothing is written
-pub found-none : {o : List ℕ} {fs : List Finding} → fs ≡ [] → Found o fs 0 o
-unfolding put
-found-none e = rw e (record { count = refl; buffer = refl })
+pub found-none : {o : Sink} {fs : List Finding} → fs ≡ [] → Found o fs 0 o
+unfolding put countAll
+found-none e = rw e (record { count = refl; buffer = refl; counts = refl })
 
 -- the parts are the whole list
 pub list-of : (b : Book) → each (keyFindings b) 0 (b .keys) ++ acrossRules b ≡ findingsOf b

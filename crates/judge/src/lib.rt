@@ -2,7 +2,7 @@
 ghost use mathlib.Core.Path.{_≡_};
 ghost use Prim.Native.Nat.{_+_, _*_, _^_, _<_, _≤_};
 ghost use lib.ListN.{length};
-ghost use Rattle.findings.specs.Findings.{Found, Added, each};
+ghost use Rattle.findings.specs.Findings.{sink, Found, Added, Counted, each};
 ghost use Rattle.book.specs.Book.{bkey, bookOf};
 ghost use Rattle.book.specs.Walk.{Opened};
 ghost use Rattle.walk.specs.Keys.{keyAt, AtKey};
@@ -28,15 +28,23 @@ use findings::start_of;
 use states::Version;
 
 // What the three rules on one key give: key number i, with this head and this value.
-fn judge_key(k: KeyHead, value: &[u8], device: u64, version: u16, i: u64, out: &mut [u8]) -> usize
-    ensures found { λ r. ⌜ Found (now (out .entry)) (keyRules device version i (bkey k (now (value .entry)))) r (now (out .exit)) ⌝ }
+fn judge_key(
+    k: KeyHead,
+    value: &[u8],
+    device: u64,
+    version: u16,
+    i: u64,
+    out: &mut [u8],
+    counts: &mut [u64],
+) -> usize
+    ensures found { λ r. ⌜ Found (sink (now (out .entry)) (now (counts .entry))) (keyRules device version i (bkey k (now (value .entry)))) r (sink (now (out .exit)) (now (counts .exit))) ⌝ }
     ensures few { λ r. ⌜ r ≤ 14 ⌝ }
 {
-    let a = fields::check_key_device(k, device, i, out);
+    let a = fields::check_key_device(k, device, i, out, counts);
     let from = start_of(out.len(), a);
-    let b = a + fields::check_key_fields(k, value, i, &mut out[from..]);
+    let b = a + fields::check_key_fields(k, value, i, &mut out[from..], counts);
     let from = start_of(out.len(), b);
-    b + states::check_state_words(Version(version), k, value, i, &mut out[from..])
+    b + states::check_state_words(Version(version), k, value, i, &mut out[from..], counts)
 }
 
 // Whether the three rules say nothing of the key at byte p by what is read here: its front f, its size and its snapshot.
@@ -62,10 +70,11 @@ fn judge_at(
     f: KeyFront,
     i: u64,
     out: &mut [u8],
+    counts: &mut [u64],
     n: usize,
 ) -> usize
     requires { ⌜ Opened (now book) h at × AtKey (now book) p f × (n < 2 ^ 62) ⌝ }
-    ensures found { λ r. ⌜ Added (now (out .entry)) n (keyFindings (bookOf (now (book .entry))) i (keyAt (now (book .entry)) p)) r (now (out .exit)) ⌝ }
+    ensures found { λ r. ⌜ Added (sink (now (out .entry)) (now (counts .entry))) n (keyFindings (bookOf (now (book .entry))) i (keyAt (now (book .entry)) p)) r (sink (now (out .exit)) (now (counts .exit))) ⌝ }
     ensures few { λ r. ⌜ r ≤ n + 14 ⌝ }
 {
     if is_quiet(book, p, f) {
@@ -83,6 +92,7 @@ fn judge_at(
             h.version,
             i,
             &mut out[from..],
+            counts,
         )
 }
 
@@ -115,9 +125,9 @@ struct Judged {
 }
 
 // "Each key in turn".
-fn judge_keys(book: &[u8], h: Header, at: Places, out: &mut [u8]) -> Judged
+fn judge_keys(book: &[u8], h: Header, at: Places, out: &mut [u8], counts: &mut [u64]) -> Judged
     requires { ⌜ Opened (now book) h at ⌝ }
-    ensures found { λ r. ⌜ Found (now (out .entry)) (each (keyFindings (bookOf (now (book .entry)))) 0 (bookOf (now (book .entry)) .keys)) (r .count) (now (out .exit)) ⌝ }
+    ensures found { λ r. ⌜ Found (sink (now (out .entry)) (now (counts .entry))) (each (keyFindings (bookOf (now (book .entry)))) 0 (bookOf (now (book .entry)) .keys)) (r .count) (sink (now (out .exit)) (now (counts .exit))) ⌝ }
     ensures few { λ r. ⌜ r .count ≤ h .keys * 14 ⌝ }
     ensures present { λ r. ⌜ r .present ≡ presentIn (bookOf (now (book .entry)) .keys) ⌝ }
 {
@@ -135,7 +145,7 @@ fn judge_keys(book: &[u8], h: Header, at: Places, out: &mut [u8]) -> Judged
     while 0 < left {
         let f = book::key_front(book, p);
         present = with_btree(present, f.btree);
-        n = judge_at(book, h, at, p, f, i, out, n);
+        n = judge_at(book, h, at, p, f, i, out, counts, n);
         p = p + 28 + f.len;
         i += 1;
         left -= 1;
@@ -150,18 +160,19 @@ fn judge_subvolumes(
     at: Places,
     p: Present,
     out: &mut [u8],
+    counts: &mut [u64],
     work: &mut [u64],
 ) -> usize
     requires { ⌜ Opened (now book) h at × (2 * h .keys ≤ length (now work)) × (p ≡ presentIn (bookOf (now book) .keys)) ⌝ }
-    ensures found { λ r. ⌜ Found (now (out .entry)) (subvolumeRules (bookOf (now (book .entry)))) r (now (out .exit)) ⌝ }
+    ensures found { λ r. ⌜ Found (sink (now (out .entry)) (now (counts .entry))) (subvolumeRules (bookOf (now (book .entry)))) r (sink (now (out .exit)) (now (counts .exit))) ⌝ }
     ensures few { λ r. ⌜ r ≤ h .keys * 74900 ⌝ }
 {
     if !p.subvolumes {
         return 0;
     }
-    let a = subvolumes::subvolume_states(book, h, at, out, work);
+    let a = subvolumes::subvolume_states(book, h, at, out, counts, work);
     let from = start_of(out.len(), a);
-    a + subvolumes::snapshot_claims(book, h, at, &mut out[from..], work)
+    a + subvolumes::snapshot_claims(book, h, at, &mut out[from..], counts, work)
 }
 
 // The rules on snapshots alone.
@@ -171,18 +182,19 @@ fn judge_snapshots(
     at: Places,
     p: Present,
     out: &mut [u8],
+    counts: &mut [u64],
     work: &mut [u64],
 ) -> usize
     requires { ⌜ Opened (now book) h at × (2 * h .keys ≤ length (now work)) × (p ≡ presentIn (bookOf (now book) .keys)) ⌝ }
-    ensures found { λ r. ⌜ Found (now (out .entry)) (snapshotRules (bookOf (now (book .entry)))) r (now (out .exit)) ⌝ }
+    ensures found { λ r. ⌜ Found (sink (now (out .entry)) (now (counts .entry))) (snapshotRules (bookOf (now (book .entry)))) r (sink (now (out .exit)) (now (counts .exit))) ⌝ }
     ensures few { λ r. ⌜ r ≤ h .keys * 4 ⌝ }
 {
     if !p.snapshots {
         return 0;
     }
-    let a = deletions::snapshot_states(book, h, at, out, work);
+    let a = deletions::snapshot_states(book, h, at, out, counts, work);
     let from = start_of(out.len(), a);
-    a + snapshots::snapshot_subvol_flags(book, h, at, &mut out[from..])
+    a + snapshots::snapshot_subvol_flags(book, h, at, &mut out[from..], counts)
 }
 
 // The rule on subvolumes and the entries of their parents.
@@ -192,14 +204,15 @@ fn judge_children(
     at: Places,
     p: Present,
     out: &mut [u8],
+    counts: &mut [u64],
     work: &mut [u64],
 ) -> usize
     requires { ⌜ Opened (now book) h at × (2 * h .keys ≤ length (now work)) × (p ≡ presentIn (bookOf (now book) .keys)) ⌝ }
-    ensures found { λ r. ⌜ Found (now (out .entry)) (subvolumeChildren (bookOf (now (book .entry)))) r (now (out .exit)) ⌝ }
+    ensures found { λ r. ⌜ Found (sink (now (out .entry)) (now (counts .entry))) (subvolumeChildren (bookOf (now (book .entry)))) r (sink (now (out .exit)) (now (counts .exit))) ⌝ }
     ensures few { λ r. ⌜ r ≤ h .keys * 2 ⌝ }
 {
     if p.subvolumes | p.children {
-        return snapshots::subvolume_children(book, h, at, out, work);
+        return snapshots::subvolume_children(book, h, at, out, counts, work);
     }
     0
 }
@@ -211,14 +224,15 @@ fn judge_links(
     at: Places,
     p: Present,
     out: &mut [u8],
+    counts: &mut [u64],
     work: &mut [u64],
 ) -> usize
     requires { ⌜ Opened (now book) h at × (2 * h .keys ≤ length (now work)) × (p ≡ presentIn (bookOf (now book) .keys)) ⌝ }
-    ensures found { λ r. ⌜ Found (now (out .entry)) (snapshotLinks (bookOf (now (book .entry)))) r (now (out .exit)) ⌝ }
+    ensures found { λ r. ⌜ Found (sink (now (out .entry)) (now (counts .entry))) (snapshotLinks (bookOf (now (book .entry)))) r (sink (now (out .exit)) (now (counts .exit))) ⌝ }
     ensures few { λ r. ⌜ r ≤ h .keys * 8 ⌝ }
 {
     if p.snapshots | p.trees {
-        return links::snapshot_links(book, h, at, out, work);
+        return links::snapshot_links(book, h, at, out, counts, work);
     }
     0
 }
@@ -230,14 +244,15 @@ fn judge_gens(
     at: Places,
     p: Present,
     out: &mut [u8],
+    counts: &mut [u64],
     work: &mut [u64],
 ) -> usize
     requires { ⌜ Opened (now book) h at × (2 * h .keys ≤ length (now work)) × (p ≡ presentIn (bookOf (now book) .keys)) ⌝ }
-    ensures found { λ r. ⌜ Found (now (out .entry)) (bucketGensAgainstAlloc (bookOf (now (book .entry)))) r (now (out .exit)) ⌝ }
+    ensures found { λ r. ⌜ Found (sink (now (out .entry)) (now (counts .entry))) (bucketGensAgainstAlloc (bookOf (now (book .entry)))) r (sink (now (out .exit)) (now (counts .exit))) ⌝ }
     ensures few { λ r. ⌜ r ≤ h .keys * 256 + 65535 ⌝ }
 {
     if p.gens | (h.gens != 0) {
-        return buckets::bucket_gens_against_alloc(book, h, at, out, work);
+        return buckets::bucket_gens_against_alloc(book, h, at, out, counts, work);
     }
     0
 }
@@ -249,17 +264,18 @@ fn judge_first(
     at: Places,
     p: Present,
     out: &mut [u8],
+    counts: &mut [u64],
     work: &mut [u64],
 ) -> usize
     requires { ⌜ Opened (now book) h at × (2 * h .keys ≤ length (now work)) × (p ≡ presentIn (bookOf (now book) .keys)) ⌝ }
-    ensures found { λ r. ⌜ Found (now (out .entry)) (firstRules (bookOf (now (book .entry)))) r (now (out .exit)) ⌝ }
+    ensures found { λ r. ⌜ Found (sink (now (out .entry)) (now (counts .entry))) (firstRules (bookOf (now (book .entry)))) r (sink (now (out .exit)) (now (counts .exit))) ⌝ }
     ensures few { λ r. ⌜ r ≤ h .keys * 74906 ⌝ }
 {
-    let a = judge_subvolumes(book, h, at, p, out, work);
+    let a = judge_subvolumes(book, h, at, p, out, counts, work);
     let from = start_of(out.len(), a);
-    let b = a + judge_snapshots(book, h, at, p, &mut out[from..], work);
+    let b = a + judge_snapshots(book, h, at, p, &mut out[from..], counts, work);
     let from = start_of(out.len(), b);
-    b + judge_children(book, h, at, p, &mut out[from..], work)
+    b + judge_children(book, h, at, p, &mut out[from..], counts, work)
 }
 
 // The rules from `snapshot_links` on.
@@ -269,17 +285,18 @@ fn judge_last(
     at: Places,
     p: Present,
     out: &mut [u8],
+    counts: &mut [u64],
     work: &mut [u64],
 ) -> usize
     requires { ⌜ Opened (now book) h at × (2 * h .keys ≤ length (now work)) × (p ≡ presentIn (bookOf (now book) .keys)) ⌝ }
-    ensures found { λ r. ⌜ Found (now (out .entry)) (lastRules (bookOf (now (book .entry)))) r (now (out .exit)) ⌝ }
+    ensures found { λ r. ⌜ Found (sink (now (out .entry)) (now (counts .entry))) (lastRules (bookOf (now (book .entry)))) r (sink (now (out .exit)) (now (counts .exit))) ⌝ }
     ensures few { λ r. ⌜ r ≤ h .keys * 266 + 196608 ⌝ }
 {
-    let a = judge_links(book, h, at, p, out, work);
+    let a = judge_links(book, h, at, p, out, counts, work);
     let from = start_of(out.len(), a);
-    let b = a + judge_gens(book, h, at, p, &mut out[from..], work);
+    let b = a + judge_gens(book, h, at, p, &mut out[from..], counts, work);
     let from = start_of(out.len(), b);
-    b + buckets::free_space(book, h, at, &mut out[from..], work)
+    b + buckets::free_space(book, h, at, &mut out[from..], counts, work)
 }
 
 // The eight rules across keys.
@@ -289,25 +306,34 @@ fn judge_across(
     at: Places,
     p: Present,
     out: &mut [u8],
+    counts: &mut [u64],
     work: &mut [u64],
 ) -> usize
     requires { ⌜ Opened (now book) h at × (2 * h .keys ≤ length (now work)) × (p ≡ presentIn (bookOf (now book) .keys)) ⌝ }
-    ensures found { λ r. ⌜ Found (now (out .entry)) (acrossRules (bookOf (now (book .entry)))) r (now (out .exit)) ⌝ }
+    ensures found { λ r. ⌜ Found (sink (now (out .entry)) (now (counts .entry))) (acrossRules (bookOf (now (book .entry)))) r (sink (now (out .exit)) (now (counts .exit))) ⌝ }
     ensures few { λ r. ⌜ r ≤ h .keys * 75172 + 196608 ⌝ }
 {
-    let n = judge_first(book, h, at, p, out, work);
+    let n = judge_first(book, h, at, p, out, counts, work);
     let from = start_of(out.len(), n);
-    n + judge_last(book, h, at, p, &mut out[from..], work)
+    n + judge_last(book, h, at, p, &mut out[from..], counts, work)
 }
 
-// All rules: the full count of findings, which is below 2^32, and in the buffer those that fit.
-pub fn judge(book: &[u8], h: Header, at: Places, out: &mut [u8], work: &mut [u64]) -> usize
+// All rules: the full count of findings, which is below 2^32, in the buffer those that fit, and each counted by its kind.
+pub fn judge(
+    book: &[u8],
+    h: Header,
+    at: Places,
+    out: &mut [u8],
+    counts: &mut [u64],
+    work: &mut [u64],
+) -> usize
     requires { ⌜ Opened (now book) h at × (2 * h .keys ≤ length (now work)) ⌝ }
-    ensures found { λ r. ⌜ Found (now (out .entry)) (findingsOf (bookOf (now (book .entry)))) r (now (out .exit)) ⌝ }
+    ensures found { λ r. ⌜ Found (sink (now (out .entry)) (now (counts .entry))) (findingsOf (bookOf (now (book .entry)))) r (sink (now (out .exit)) (now (counts .exit))) ⌝ }
     ensures few { λ r. ⌜ r < 2 ^ 32 ⌝ }
+    ensures counted { λ _. ⌜ Counted (now (counts .entry)) (findingsOf (bookOf (now (book .entry)))) (now (counts .exit)) ⌝ }
 {
-    let keys = judge_keys(book, h, at, out);
+    let keys = judge_keys(book, h, at, out, counts);
     let n = keys.count;
     let from = start_of(out.len(), n);
-    n + judge_across(book, h, at, keys.present, &mut out[from..], work)
+    n + judge_across(book, h, at, keys.present, &mut out[from..], counts, work)
 }

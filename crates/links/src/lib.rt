@@ -5,7 +5,7 @@ ghost use mathlib.Core.Bool.{cond, not, _&&_, _||_};
 ghost use Prim.Native.Nat.{_+_, _*_, _%_, _^_, _<_, _≤_};
 ghost use lib.ListN.{length, take, drop, getD};
 ghost use lib.Dec.{eqb};
-ghost use Rattle.findings.specs.Findings.{only, each, keep, Found, Added};
+ghost use Rattle.findings.specs.Findings.{sink, only, each, keep, Found, Added};
 ghost use Rattle.pairs.specs.Pairs.{pairsOf};
 ghost use Rattle.book.specs.Maps.{lookup};
 ghost use Rattle.book.specs.Book.{wordsFrom, bookOf, parentsOf};
@@ -168,15 +168,16 @@ fn show_backref(
     f: KeyFront,
     id: u32,
     out: &mut [u8],
+    counts: &mut [u64],
     m: usize,
 ) -> usize
     requires { ⌜ Opened (now book) h at × AtKey (now book) p f × (40 ≤ f .len) × (m < 2 ^ 62) ⌝ }
-    ensures added { λ r. ⌜ Added (now (out .entry)) m (backrefFindings (keyAt (now (book .entry)) p) id (lookup (subvolumeWord (keyAt (now (book .entry)) p)) (bookOf (now (book .entry)) .subvolumes))) r (now (out .exit)) ⌝ }
+    ensures added { λ r. ⌜ Added (sink (now (out .entry)) (now (counts .entry))) m (backrefFindings (keyAt (now (book .entry)) p) id (lookup (subvolumeWord (keyAt (now (book .entry)) p)) (bookOf (now (book .entry)) .subvolumes))) r (sink (now (out .exit)) (now (counts .exit))) ⌝ }
     ensures few { λ r. ⌜ r ≤ m + 1 ⌝ }
 {
     let subvolume = walk::key_word(book, p, f, 16);
     let bad = bad_backref(book, h, at, id, subvolume);
-    emit_if(out, m, bad, 43, id as u64, subvolume as u64)
+    emit_if(out, counts, m, bad, 43, id as u64, subvolume as u64)
 }
 
 // The findings of a snapshot's two children.
@@ -188,18 +189,19 @@ fn show_children(
     f: KeyFront,
     id: u32,
     out: &mut [u8],
+    counts: &mut [u64],
     m: usize,
 ) -> usize
     requires { ⌜ Opened (now book) h at × AtKey (now book) p f × (40 ≤ f .len) × (m < 2 ^ 62) ⌝ }
-    ensures added { λ r. ⌜ Added (now (out .entry)) m (childFindings (keyAt (now (book .entry)) p) id (parentsOf (bookOf (now (book .entry))))) r (now (out .exit)) ⌝ }
+    ensures added { λ r. ⌜ Added (sink (now (out .entry)) (now (counts .entry))) m (childFindings (keyAt (now (book .entry)) p) id (parentsOf (bookOf (now (book .entry))))) r (sink (now (out .exit)) (now (counts .exit))) ⌝ }
     ensures few { λ r. ⌜ r ≤ m + 2 ⌝ }
 {
     let left = walk::key_word(book, p, f, 8);
     let right = walk::key_word(book, p, f, 12);
     let one = bad_child(book, h, at, id, left);
     let other = bad_child(book, h, at, id, right);
-    let found = emit_if(out, m, one, 44, id as u64, left as u64);
-    emit_if(out, found, other, 44, id as u64, right as u64)
+    let found = emit_if(out, counts, m, one, 44, id as u64, left as u64);
+    emit_if(out, counts, found, other, 44, id as u64, right as u64)
 }
 
 // The finding of a snapshot's skip words, by the first len ids.
@@ -211,14 +213,15 @@ fn show_skips(
     ids: &[u32; 1024],
     len: usize,
     out: &mut [u8],
+    counts: &mut [u64],
     m: usize,
 ) -> usize
     requires { ⌜ AtKey (now book) p f × (40 ≤ f .len) × (len ≤ 1024) × (length (now ids) ≡ 1024) × (m < 2 ^ 62) ⌝ }
-    ensures added { λ r. ⌜ Added (now (out .entry)) m (skipFindings (keyAt (now (book .entry)) p) id (take len (now (ids .entry)))) r (now (out .exit)) ⌝ }
+    ensures added { λ r. ⌜ Added (sink (now (out .entry)) (now (counts .entry))) m (skipFindings (keyAt (now (book .entry)) p) id (take len (now (ids .entry)))) r (sink (now (out .exit)) (now (counts .exit))) ⌝ }
     ensures few { λ r. ⌜ r ≤ m + 1 ⌝ }
 {
     let bad = count_skips(book, p, f, ids, len, id);
-    emit_if(out, m, bad != 0, 45, id as u64, bad)
+    emit_if(out, counts, m, bad != 0, 45, id as u64, bad)
 }
 
 // Puts the pair of the key at byte p in a map behind the first n.
@@ -307,18 +310,19 @@ fn show_root(
     id: u32,
     root: Root,
     out: &mut [u8],
+    counts: &mut [u64],
     m: usize,
 ) -> usize
     requires { ⌜ Ready (now book) h at (now work) n × AtKey (now book) p f × (40 ≤ f .len) × (m < 2 ^ 62) ⌝ }
-    ensures added { λ r. ⌜ Added (now (out .entry)) m (rootFindings (keyAt (now (book .entry)) p) id (lookup (treeWord (keyAt (now (book .entry)) p)) (treeMap (bookOf (now (book .entry))))) (rootIn root)) r (now (out .exit)) ⌝ }
+    ensures added { λ r. ⌜ Added (sink (now (out .entry)) (now (counts .entry))) m (rootFindings (keyAt (now (book .entry)) p) id (lookup (treeWord (keyAt (now (book .entry)) p)) (treeMap (bookOf (now (book .entry))))) (rootIn root)) r (sink (now (out .exit)) (now (counts .exit))) ⌝ }
     ensures few { λ r. ⌜ r ≤ m + 2 ⌝ }
 {
     let tree = walk::key_word(book, p, f, 20);
     let depth = walk::key_word(book, p, f, 24);
     let same = same_root(tree_root(book, h, at, work, n, tree), root);
     let wrong = wrong_depth(depth, root);
-    let found = emit_if(out, m, !same, 41, id as u64, tree as u64);
-    emit_if(out, found, wrong, 42, id as u64, depth as u64)
+    let found = emit_if(out, counts, m, !same, 41, id as u64, tree as u64);
+    emit_if(out, counts, found, wrong, 42, id as u64, depth as u64)
 }
 
 // The findings of the snapshot at byte p, by its line.
@@ -333,19 +337,20 @@ fn show_links(
     line: Line,
     ids: &[u32; 1024],
     out: &mut [u8],
+    counts: &mut [u64],
     m: usize,
 ) -> usize
     requires { ⌜ Ready (now book) h at (now work) n × AtKey (now book) p f × (40 ≤ f .len) × (m < 2 ^ 61) ⌝ }
     requires { ⌜ Lined (wordsFrom (now book) (h .parents) (at .parents)) (now ids) line × (line .id ≡ idOf (keyAt (now book) p)) ⌝ }
-    ensures added { λ r. ⌜ Added (now (out .entry)) m (linkFindings (bookOf (now (book .entry))) (keyAt (now (book .entry)) p)) r (now (out .exit)) ⌝ }
+    ensures added { λ r. ⌜ Added (sink (now (out .entry)) (now (counts .entry))) m (linkFindings (bookOf (now (book .entry))) (keyAt (now (book .entry)) p)) r (sink (now (out .exit)) (now (counts .exit))) ⌝ }
     ensures few { λ r. ⌜ r ≤ m + 6 ⌝ }
 {
     let id = line.id;
     let root = line.root;
-    let m = show_root(book, h, at, work, n, p, f, id, root, out, m);
-    let m = show_backref(book, h, at, p, f, id, out, m);
-    let m = show_children(book, h, at, p, f, id, out, m);
-    show_skips(book, p, f, id, ids, line.len, out, m)
+    let m = show_root(book, h, at, work, n, p, f, id, root, out, counts, m);
+    let m = show_backref(book, h, at, p, f, id, out, counts, m);
+    let m = show_children(book, h, at, p, f, id, out, counts, m);
+    show_skips(book, p, f, id, ids, line.len, out, counts, m)
 }
 
 // The findings of the key at byte p, if it is a snapshot with all its words: its line is found from that of the snapshot before.
@@ -360,18 +365,19 @@ fn show_snapshot(
     line: Line,
     ids: &mut [u32; 1024],
     out: &mut [u8],
+    counts: &mut [u64],
     m: usize,
 ) -> Shown
     requires { ⌜ Ready (now book) h at (now work) n × AtKey (now book) p f × (m < 2 ^ 61) ⌝ }
     requires { ⌜ Lined (wordsFrom (now book) (h .parents) (at .parents)) (now ids) line × (line .near ≤ h .parents) ⌝ }
-    ensures added { λ r. ⌜ Added (now (out .entry)) m (only (holds 9 22 40 (keyAt (now (book .entry)) p)) (linkFindings (bookOf (now (book .entry))) (keyAt (now (book .entry)) p))) (r .found) (now (out .exit)) ⌝ }
+    ensures added { λ r. ⌜ Added (sink (now (out .entry)) (now (counts .entry))) m (only (holds 9 22 40 (keyAt (now (book .entry)) p)) (linkFindings (bookOf (now (book .entry))) (keyAt (now (book .entry)) p))) (r .found) (sink (now (out .exit)) (now (counts .exit))) ⌝ }
     ensures few { λ r. ⌜ r .found ≤ m + 6 ⌝ }
     ensures lined { λ r. ⌜ Lined (wordsFrom (now (book .entry)) (h .parents) (at .parents)) (now (ids .exit)) (r .line) × (r .line .near ≤ h .parents) ⌝ }
 {
     if ((f.btree == 9) & (f.key_type == 22)) & (40 <= f.len) {
         let id = key_id(book, p, f);
         let next = ancestors::line_beside(book, at.parents, h.parents as usize, line, id, ids);
-        let found = show_links(book, h, at, work, n, p, f, next, ids, out, m);
+        let found = show_links(book, h, at, work, n, p, f, next, ids, out, counts, m);
         return Shown { found, line: next };
     }
     Shown { found: m, line }
@@ -385,9 +391,10 @@ fn show_snapshots(
     work: &[u64],
     n: usize,
     out: &mut [u8],
+    counts: &mut [u64],
 ) -> usize
     requires { ⌜ Ready (now book) h at (now work) n ⌝ }
-    ensures found { λ r. ⌜ Found (now (out .entry)) (each (λ _ k. only (holds 9 22 40 k) (linkFindings (bookOf (now (book .entry))) k)) 0 (bookOf (now (book .entry)) .keys)) r (now (out .exit)) ⌝ }
+    ensures found { λ r. ⌜ Found (sink (now (out .entry)) (now (counts .entry))) (each (λ _ k. only (holds 9 22 40 k) (linkFindings (bookOf (now (book .entry))) k)) 0 (bookOf (now (book .entry)) .keys)) r (sink (now (out .exit)) (now (counts .exit))) ⌝ }
     ensures few { λ r. ⌜ r ≤ h .keys * 6 ⌝ }
 {
     let mut ids = [0u32; 1024];
@@ -397,7 +404,20 @@ fn show_snapshots(
     let mut p = at.keys;
     while 0 < left {
         let f = book::key_front(book, p);
-        let shown = show_snapshot(book, h, at, work, n, p, f, line, &mut ids, out, found);
+        let shown = show_snapshot(
+            book,
+            h,
+            at,
+            work,
+            n,
+            p,
+            f,
+            line,
+            &mut ids,
+            out,
+            counts,
+            found,
+        );
         found = shown.found;
         line = shown.line;
         p = p + 28 + f.len;
@@ -416,18 +436,19 @@ fn show_master(
     id: u32,
     subvolume: u32,
     out: &mut [u8],
+    counts: &mut [u64],
     m: usize,
 ) -> usize
     requires { ⌜ Ready (now book) h at (now work) n × (m < 2 ^ 62) ⌝ }
-    ensures added { λ r. ⌜ Added (now (out .entry)) m (masterFindings (treeOfMap (bookOf (now (book .entry)))) id subvolume (lookup subvolume (bookOf (now (book .entry)) .subvolumes))) r (now (out .exit)) ⌝ }
+    ensures added { λ r. ⌜ Added (sink (now (out .entry)) (now (counts .entry))) m (masterFindings (treeOfMap (bookOf (now (book .entry)))) id subvolume (lookup subvolume (bookOf (now (book .entry)) .subvolumes))) r (sink (now (out .exit)) (now (counts .exit))) ⌝ }
     ensures few { λ r. ⌜ r ≤ m + 1 ⌝ }
 {
     match snapshot_of(book, h, at, subvolume) {
         MaybeU32::Is(snap) => {
             let other = is_other(tree_of(book, h, at, work, n, snap), id);
-            emit_if(out, m, other, 40, id as u64, subvolume as u64)
+            emit_if(out, counts, m, other, 40, id as u64, subvolume as u64)
         }
-        MaybeU32::Absent => emit(out, m, 31, id as u64, subvolume as u64),
+        MaybeU32::Absent => emit(out, counts, m, 31, id as u64, subvolume as u64),
     }
 }
 
@@ -441,18 +462,19 @@ fn show_tree(
     p: usize,
     f: KeyFront,
     out: &mut [u8],
+    counts: &mut [u64],
     m: usize,
 ) -> usize
     requires { ⌜ Ready (now book) h at (now work) n × AtKey (now book) p f × (8 ≤ f .len) × (m < 2 ^ 61) ⌝ }
-    ensures added { λ r. ⌜ Added (now (out .entry)) m (treeFindings (bookOf (now (book .entry))) (treeAt (now (book .entry)) (idOf (keyAt (now (book .entry)) p), p))) r (now (out .exit)) ⌝ }
+    ensures added { λ r. ⌜ Added (sink (now (out .entry)) (now (counts .entry))) m (treeFindings (bookOf (now (book .entry))) (treeAt (now (book .entry)) (idOf (keyAt (now (book .entry)) p), p))) r (sink (now (out .exit)) (now (counts .exit))) ⌝ }
     ensures few { λ r. ⌜ r ≤ m + 2 ⌝ }
 {
     let id = key_id(book, p, f);
     let subvolume = walk::key_word(book, p, f, 0);
     let root = walk::key_word(book, p, f, 4);
     let back = is_the(tree_of(book, h, at, work, n, root), id);
-    let found = emit_if(out, m, !back, 39, id as u64, root as u64);
-    show_master(book, h, at, work, n, id, subvolume, out, found)
+    let found = emit_if(out, counts, m, !back, 39, id as u64, root as u64);
+    show_master(book, h, at, work, n, id, subvolume, out, counts, found)
 }
 
 // The findings of pair i, if it is the last tree record of its id.
@@ -464,57 +486,81 @@ fn show_pair(
     n: usize,
     i: usize,
     out: &mut [u8],
+    counts: &mut [u64],
     m: usize,
 ) -> usize
     requires { ⌜ Ready (now book) h at (now work) n × (i < n) × (m < 2 ^ 61) ⌝ }
-    ensures added { λ r. ⌜ Added (now (out .entry)) m (only (lastAt 0 (drop i (pairsOf (now (work .entry)) n))) (treeFindings (bookOf (now (book .entry))) (treeAt (now (book .entry)) (getD (now (work .entry)) (2 * i) 0, getD (now (work .entry)) (2 * i + 1) 0 % 2 ^ 32)))) r (now (out .exit)) ⌝ }
+    ensures added { λ r. ⌜ Added (sink (now (out .entry)) (now (counts .entry))) m (only (lastAt 0 (drop i (pairsOf (now (work .entry)) n))) (treeFindings (bookOf (now (book .entry))) (treeAt (now (book .entry)) (getD (now (work .entry)) (2 * i) 0, getD (now (work .entry)) (2 * i + 1) 0 % 2 ^ 32)))) r (sink (now (out .exit)) (now (counts .exit))) ⌝ }
     ensures few { λ r. ⌜ r ≤ m + 2 ⌝ }
 {
     if maps::is_last(work, n, i, 0) {
         let q = 2 * i + 1;
         let p = (work[q] % 0x1_0000_0000) as usize;
         let f = book::key_front(book, p);
-        return show_tree(book, h, at, work, n, p, f, out, m);
+        return show_tree(book, h, at, work, n, p, f, out, counts, m);
     }
     m
 }
 
 // The findings of the trees, in id order.
-fn show_trees(book: &[u8], h: Header, at: Places, work: &[u64], n: usize, out: &mut [u8]) -> usize
+fn show_trees(
+    book: &[u8],
+    h: Header,
+    at: Places,
+    work: &[u64],
+    n: usize,
+    out: &mut [u8],
+    counts: &mut [u64],
+) -> usize
     requires { ⌜ Ready (now book) h at (now work) n ⌝ }
-    ensures found { λ r. ⌜ Found (now (out .entry)) (each (λ _ e. treeFindings (bookOf (now (book .entry))) e) 0 (treeMap (bookOf (now (book .entry))))) r (now (out .exit)) ⌝ }
+    ensures found { λ r. ⌜ Found (sink (now (out .entry)) (now (counts .entry))) (each (λ _ e. treeFindings (bookOf (now (book .entry))) e) 0 (treeMap (bookOf (now (book .entry))))) r (sink (now (out .exit)) (now (counts .exit))) ⌝ }
     ensures few { λ r. ⌜ r ≤ n * 2 ⌝ }
 {
     let mut found: usize = 0;
     let mut i: usize = 0;
     while i < n {
-        found = show_pair(book, h, at, work, n, i, out, found);
+        found = show_pair(book, h, at, work, n, i, out, counts, found);
         i += 1;
     }
     found
 }
 
 // The findings of the trees and of the snapshots.
-fn show_all(book: &[u8], h: Header, at: Places, work: &[u64], n: usize, out: &mut [u8]) -> usize
+fn show_all(
+    book: &[u8],
+    h: Header,
+    at: Places,
+    work: &[u64],
+    n: usize,
+    out: &mut [u8],
+    counts: &mut [u64],
+) -> usize
     requires { ⌜ Ready (now book) h at (now work) n ⌝ }
-    ensures found { λ r. ⌜ Found (now (out .entry)) (each (λ _ e. treeFindings (bookOf (now (book .entry))) e) 0 (treeMap (bookOf (now (book .entry)))) ++ each (λ _ k. only (holds 9 22 40 k) (linkFindings (bookOf (now (book .entry))) k)) 0 (bookOf (now (book .entry)) .keys)) r (now (out .exit)) ⌝ }
+    ensures found { λ r. ⌜ Found (sink (now (out .entry)) (now (counts .entry))) (each (λ _ e. treeFindings (bookOf (now (book .entry))) e) 0 (treeMap (bookOf (now (book .entry)))) ++ each (λ _ k. only (holds 9 22 40 k) (linkFindings (bookOf (now (book .entry))) k)) 0 (bookOf (now (book .entry)) .keys)) r (sink (now (out .exit)) (now (counts .exit))) ⌝ }
     ensures few { λ r. ⌜ r ≤ h .keys * 8 ⌝ }
 {
-    let trees = show_trees(book, h, at, work, n, out);
+    let trees = show_trees(book, h, at, work, n, out, counts);
     let from = findings::start_of(out.len(), trees);
-    trees + show_snapshots(book, h, at, work, n, &mut out[from..])
+    trees + show_snapshots(book, h, at, work, n, &mut out[from..], counts)
 }
 
 // The findings of links between snapshots and their trees, if the snapshot_trees btree is present.
-pub fn snapshot_links(book: &[u8], h: Header, at: Places, out: &mut [u8], work: &mut [u64]) -> usize
+pub fn snapshot_links(
+    book: &[u8],
+    h: Header,
+    at: Places,
+    out: &mut [u8],
+    counts: &mut [u64],
+    work: &mut [u64],
+) -> usize
     requires { ⌜ Opened (now book) h at × (2 * h .keys ≤ length (now work)) ⌝ }
-    ensures found { λ r. ⌜ Found (now (out .entry)) (snapshotLinks (bookOf (now (book .entry)))) r (now (out .exit)) ⌝ }
+    ensures found { λ r. ⌜ Found (sink (now (out .entry)) (now (counts .entry))) (snapshotLinks (bookOf (now (book .entry)))) r (sink (now (out .exit)) (now (counts .exit))) ⌝ }
     ensures few { λ r. ⌜ r ≤ h .keys * 8 ⌝ }
 {
     if h.trees {
         let n = put_links(book, h, at, work);
         sorting::sort_pairs(work, n);
-        return show_all(book, h, at, work, n, out);
+        return show_all(book, h, at, work, n, out, counts);
     }
     0
 }

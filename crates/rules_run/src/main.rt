@@ -36,14 +36,22 @@ fn judge_key(bytes: &[u8], s: Section)
 {
     let h = book::key_head(bytes, 0);
     let mut out = io::buffer();
+    let mut counts = [0u64; 0];
     if s.letter == b'w' {
-        let n = states::check_state_words(Version(s.version), h, &bytes[28..], s.line, &mut out);
+        let n = states::check_state_words(
+            Version(s.version),
+            h,
+            &bytes[28..],
+            s.line,
+            &mut out,
+            &mut counts,
+        );
         lines::show_findings(&out, n);
         return;
     }
-    let n = fields::check_key_device(h, 0, s.line, &mut out);
+    let n = fields::check_key_device(h, 0, s.line, &mut out, &mut counts);
     lines::show_findings(&out, n);
-    let n = fields::check_key_fields(h, &bytes[28..], s.line, &mut out);
+    let n = fields::check_key_fields(h, &bytes[28..], s.line, &mut out, &mut counts);
     lines::show_findings(&out, n);
 }
 
@@ -70,15 +78,23 @@ fn ask_all(bytes: &[u8], h: Header, at: Places)
 }
 
 // Subvolumes that are unlinked or deleted, claims, and states of snapshots.
+fn judge_gone(bytes: &[u8], h: Header, at: Places, out: &mut [u8], work: &mut [u64])
+    requires { ⌜ Opened (now bytes) h at × (2 * h .keys ≤ length (now work)) ⌝ }
+{
+    let mut counts = [0u64; 0];
+    let n = subvolumes::subvolume_states(bytes, h, at, out, &mut counts, work);
+    lines::show_findings(out, n);
+    let n = subvolumes::snapshot_claims(bytes, h, at, out, &mut counts, work);
+    lines::show_findings(out, n);
+    let n = deletions::snapshot_states(bytes, h, at, out, &mut counts, work);
+    lines::show_findings(out, n);
+}
+
+// The same, and the ids that are unavailable.
 fn judge_deletions(bytes: &[u8], h: Header, at: Places, out: &mut [u8], work: &mut [u64])
     requires { ⌜ Opened (now bytes) h at × (2 * h .keys ≤ length (now work)) ⌝ }
 {
-    let n = subvolumes::subvolume_states(bytes, h, at, out, work);
-    lines::show_findings(out, n);
-    let n = subvolumes::snapshot_claims(bytes, h, at, out, work);
-    lines::show_findings(out, n);
-    let n = deletions::snapshot_states(bytes, h, at, out, work);
-    lines::show_findings(out, n);
+    judge_gone(bytes, h, at, out, work);
     ask_all(bytes, h, at);
 }
 
@@ -86,9 +102,10 @@ fn judge_deletions(bytes: &[u8], h: Header, at: Places, out: &mut [u8], work: &m
 fn judge_snapshots(bytes: &[u8], h: Header, at: Places, out: &mut [u8], work: &mut [u64])
     requires { ⌜ Opened (now bytes) h at × (2 * h .keys ≤ length (now work)) ⌝ }
 {
-    let n = snapshots::snapshot_subvol_flags(bytes, h, at, out);
+    let mut counts = [0u64; 0];
+    let n = snapshots::snapshot_subvol_flags(bytes, h, at, out, &mut counts);
     lines::show_findings(out, n);
-    let n = snapshots::subvolume_children(bytes, h, at, out, work);
+    let n = snapshots::subvolume_children(bytes, h, at, out, &mut counts, work);
     lines::show_findings(out, n);
 }
 
@@ -96,7 +113,8 @@ fn judge_snapshots(bytes: &[u8], h: Header, at: Places, out: &mut [u8], work: &m
 fn judge_links(bytes: &[u8], h: Header, at: Places, out: &mut [u8], work: &mut [u64])
     requires { ⌜ Opened (now bytes) h at × (2 * h .keys ≤ length (now work)) ⌝ }
 {
-    let n = links::snapshot_links(bytes, h, at, out, work);
+    let mut counts = [0u64; 0];
+    let n = links::snapshot_links(bytes, h, at, out, &mut counts, work);
     lines::show_findings(out, n);
 }
 
@@ -104,9 +122,10 @@ fn judge_links(bytes: &[u8], h: Header, at: Places, out: &mut [u8], work: &mut [
 fn judge_buckets(bytes: &[u8], h: Header, at: Places, out: &mut [u8], work: &mut [u64])
     requires { ⌜ Opened (now bytes) h at × (2 * h .keys ≤ length (now work)) ⌝ }
 {
-    let n = buckets::bucket_gens_against_alloc(bytes, h, at, out, work);
+    let mut counts = [0u64; 0];
+    let n = buckets::bucket_gens_against_alloc(bytes, h, at, out, &mut counts, work);
     lines::show_findings(out, n);
-    let n = buckets::free_space(bytes, h, at, out, work);
+    let n = buckets::free_space(bytes, h, at, out, &mut counts, work);
     lines::show_findings(out, n);
 }
 

@@ -3,7 +3,7 @@ ghost use mathlib.Core.Path.{_≡_};
 ghost use mathlib.Core.List.{_++_};
 ghost use Prim.Native.Nat.{_+_, _*_, _%_, _^_, _<_, _≤_, min};
 ghost use lib.ListN.{length, getD, drop};
-ghost use Rattle.findings.specs.Findings.{Found, Added, only, each};
+ghost use Rattle.findings.specs.Findings.{sink, Found, Added, only, each};
 ghost use Rattle.pairs.specs.Pairs.{pairsOf};
 ghost use Rattle.book.specs.Maps.{lookup};
 ghost use Rattle.book.specs.Book.{bookOf};
@@ -36,9 +36,16 @@ use states::SUBVOL_STATE;
 const SUBVOL_FS_PARENT: usize = 20;
 
 // The finding of the key at byte p, if it is a snapshot whose subvolume flag, bit 1 of its flags, is wrong.
-fn show_flag(book: &[u8], p: usize, f: KeyFront, out: &mut [u8], n: usize) -> usize
+fn show_flag(
+    book: &[u8],
+    p: usize,
+    f: KeyFront,
+    out: &mut [u8],
+    counts: &mut [u64],
+    n: usize,
+) -> usize
     requires { ⌜ AtKey (now book) p f × (n < 2 ^ 62) ⌝ }
-    ensures added { λ r. ⌜ Added (now (out .entry)) n (flagFindings (keyAt (now (book .entry)) p)) r (now (out .exit)) ⌝ }
+    ensures added { λ r. ⌜ Added (sink (now (out .entry)) (now (counts .entry))) n (flagFindings (keyAt (now (book .entry)) p)) r (sink (now (out .exit)) (now (counts .exit))) ⌝ }
     ensures few { λ r. ⌜ r ≤ n + 1 ⌝ }
 {
     if ((f.btree == 9) & (f.key_type == 22)) & (20 <= f.len) {
@@ -46,15 +53,21 @@ fn show_flag(book: &[u8], p: usize, f: KeyFront, out: &mut [u8], n: usize) -> us
         let subvolume = walk::key_word(book, p, f, 16);
         let offset = walk::key_offset(book, p, f);
         let wrong = (flagged & (subvolume == 0)) | (!flagged & (subvolume != 0));
-        return emit_if(out, n, wrong, 36, offset, subvolume as u64);
+        return emit_if(out, counts, n, wrong, 36, offset, subvolume as u64);
     }
     n
 }
 
 // The findings of snapshots whose subvolume flag is set without a subvolume, or clear with one.
-pub fn snapshot_subvol_flags(book: &[u8], h: Header, at: Places, out: &mut [u8]) -> usize
+pub fn snapshot_subvol_flags(
+    book: &[u8],
+    h: Header,
+    at: Places,
+    out: &mut [u8],
+    counts: &mut [u64],
+) -> usize
     requires { ⌜ Opened (now book) h at ⌝ }
-    ensures found { λ r. ⌜ Found (now (out .entry)) (snapshotSubvolFlags (bookOf (now (book .entry)))) r (now (out .exit)) ⌝ }
+    ensures found { λ r. ⌜ Found (sink (now (out .entry)) (now (counts .entry))) (snapshotSubvolFlags (bookOf (now (book .entry)))) r (sink (now (out .exit)) (now (counts .exit))) ⌝ }
     ensures few { λ r. ⌜ r ≤ h .keys ⌝ }
 {
     let mut n: usize = 0;
@@ -62,7 +75,7 @@ pub fn snapshot_subvol_flags(book: &[u8], h: Header, at: Places, out: &mut [u8])
     let mut p = at.keys;
     while 0 < keys {
         let f = book::key_front(book, p);
-        n = show_flag(book, p, f, out, n);
+        n = show_flag(book, p, f, out, counts, n);
         p = p + 28 + f.len;
         keys -= 1;
     }
@@ -155,10 +168,11 @@ fn show_missing(
     n: usize,
     i: usize,
     out: &mut [u8],
+    counts: &mut [u64],
     m: usize,
 ) -> usize
     requires { ⌜ Opened (now book) h at × (2 * n ≤ length (now work)) × (i < n) × AllPairs childPair (now book) (h .keys) (at .keys) (pairsOf (now work) n) × (m < 2 ^ 62) ⌝ }
-    ensures added { λ r. ⌜ Added (now (out .entry)) m (only (lastAt 0 (drop i (pairsOf (now (work .entry)) n))) (missingEntry (bookOf (now (book .entry)) .keys) (getD (now (work .entry)) (2 * i) 0, word 20 (keyAt (now (book .entry)) (getD (now (work .entry)) (2 * i + 1) 0 % 2 ^ 32))))) r (now (out .exit)) ⌝ }
+    ensures added { λ r. ⌜ Added (sink (now (out .entry)) (now (counts .entry))) m (only (lastAt 0 (drop i (pairsOf (now (work .entry)) n))) (missingEntry (bookOf (now (book .entry)) .keys) (getD (now (work .entry)) (2 * i) 0, word 20 (keyAt (now (book .entry)) (getD (now (work .entry)) (2 * i + 1) 0 % 2 ^ 32))))) r (sink (now (out .exit)) (now (counts .exit))) ⌝ }
     ensures few { λ r. ⌜ r ≤ m + 1 ⌝ }
 {
     if maps::is_last(work, n, i, 0) {
@@ -167,7 +181,7 @@ fn show_missing(
         let place = work[q + 1] % 0x1_0000_0000;
         let parent = fs_parent(book, place as usize) as u64;
         let entry = pairs::has_pair_from(work, n, i + 1, child, 0x1_0000_0000 + parent);
-        return emit_if(out, m, (parent != 0) & !entry, 37, child, parent);
+        return emit_if(out, counts, m, (parent != 0) & !entry, 37, child, parent);
     }
     m
 }
@@ -180,15 +194,16 @@ fn show_missings(
     work: &[u64],
     n: usize,
     out: &mut [u8],
+    counts: &mut [u64],
 ) -> usize
     requires { ⌜ Opened (now book) h at × (2 * n ≤ length (now work)) × (n ≤ h .keys) × AllPairs childPair (now book) (h .keys) (at .keys) (pairsOf (now work) n) ⌝ }
-    ensures found { λ r. ⌜ Found (now (out .entry)) (each (λ _ e. missingEntry (bookOf (now (book .entry)) .keys) e) 0 (fsParents (bookOf (now (book .entry))))) r (now (out .exit)) ⌝ }
+    ensures found { λ r. ⌜ Found (sink (now (out .entry)) (now (counts .entry))) (each (λ _ e. missingEntry (bookOf (now (book .entry)) .keys) e) 0 (fsParents (bookOf (now (book .entry))))) r (sink (now (out .exit)) (now (counts .exit))) ⌝ }
     ensures few { λ r. ⌜ r ≤ n ⌝ }
 {
     let mut found: usize = 0;
     let mut i: usize = 0;
     while i < n {
-        found = show_missing(book, h, at, work, n, i, out, found);
+        found = show_missing(book, h, at, work, n, i, out, counts, found);
         i += 1;
     }
     found
@@ -224,10 +239,11 @@ fn show_wrong(
     work: &[u64],
     n: usize,
     out: &mut [u8],
+    counts: &mut [u64],
     m: usize,
 ) -> usize
     requires { ⌜ Opened (now book) h at × AtKey (now book) p f × (2 * n ≤ length (now work)) × AllPairs childPair (now book) (h .keys) (at .keys) (pairsOf (now work) n) × (m < 2 ^ 62) ⌝ }
-    ensures added { λ r. ⌜ Added (now (out .entry)) m (only (isEntry (keyAt (now (book .entry)) p)) (wrongEntry (keyAt (now (book .entry)) p) (lookup (keyAt (now (book .entry)) p .offset) (fsParents (bookOf (now (book .entry))))))) r (now (out .exit)) ⌝ }
+    ensures added { λ r. ⌜ Added (sink (now (out .entry)) (now (counts .entry))) m (only (isEntry (keyAt (now (book .entry)) p)) (wrongEntry (keyAt (now (book .entry)) p) (lookup (keyAt (now (book .entry)) p .offset) (fsParents (bookOf (now (book .entry))))))) r (sink (now (out .exit)) (now (counts .exit))) ⌝ }
     ensures few { λ r. ⌜ r ≤ m + 1 ⌝ }
 {
     if (f.btree == 19) & (f.key_type == 25) {
@@ -236,18 +252,34 @@ fn show_wrong(
         let found = find_parent(book, h, at, work, n, n, child);
         match found {
             MaybeU32::Is(parent) => {
-                return emit_if(out, m, parent as u64 != inode, 38, child, parent as u64);
+                return emit_if(
+                    out,
+                    counts,
+                    m,
+                    parent as u64 != inode,
+                    38,
+                    child,
+                    parent as u64,
+                );
             },
-            MaybeU32::Absent => return emit(out, m, 38, child, 0),
+            MaybeU32::Absent => return emit(out, counts, m, 38, child, 0),
         }
     }
     m
 }
 
 // The findings of the entries whose child has another parent or is not there, by the first n pairs, which are sorted.
-fn show_wrongs(book: &[u8], h: Header, at: Places, work: &[u64], n: usize, out: &mut [u8]) -> usize
+fn show_wrongs(
+    book: &[u8],
+    h: Header,
+    at: Places,
+    work: &[u64],
+    n: usize,
+    out: &mut [u8],
+    counts: &mut [u64],
+) -> usize
     requires { ⌜ Opened (now book) h at × (2 * n ≤ length (now work)) × AllPairs childPair (now book) (h .keys) (at .keys) (pairsOf (now work) n) ⌝ }
-    ensures found { λ r. ⌜ Found (now (out .entry)) (each (λ _ k. only (isEntry k) (wrongEntry k (lookup (k .offset) (fsParents (bookOf (now (book .entry))))))) 0 (bookOf (now (book .entry)) .keys)) r (now (out .exit)) ⌝ }
+    ensures found { λ r. ⌜ Found (sink (now (out .entry)) (now (counts .entry))) (each (λ _ k. only (isEntry k) (wrongEntry k (lookup (k .offset) (fsParents (bookOf (now (book .entry))))))) 0 (bookOf (now (book .entry)) .keys)) r (sink (now (out .exit)) (now (counts .exit))) ⌝ }
     ensures few { λ r. ⌜ r ≤ h .keys ⌝ }
 {
     let mut found: usize = 0;
@@ -255,7 +287,7 @@ fn show_wrongs(book: &[u8], h: Header, at: Places, work: &[u64], n: usize, out: 
     let mut p = at.keys;
     while 0 < left {
         let f = book::key_front(book, p);
-        found = show_wrong(book, h, at, p, f, work, n, out, found);
+        found = show_wrong(book, h, at, p, f, work, n, out, counts, found);
         p = p + 28 + f.len;
         left -= 1;
     }
@@ -333,15 +365,16 @@ fn show_children(
     work: &[u64],
     n: usize,
     out: &mut [u8],
+    counts: &mut [u64],
 ) -> usize
     requires { ⌜ Opened (now book) h at × (2 * n ≤ length (now work)) × (n ≤ h .keys) × AllPairs childPair (now book) (h .keys) (at .keys) (pairsOf (now work) n) ⌝ }
-    ensures found { λ r. ⌜ Found (now (out .entry)) (subvolumeChildren (bookOf (now (book .entry)))) r (now (out .exit)) ⌝ }
+    ensures found { λ r. ⌜ Found (sink (now (out .entry)) (now (counts .entry))) (subvolumeChildren (bookOf (now (book .entry)))) r (sink (now (out .exit)) (now (counts .exit))) ⌝ }
     ensures few { λ r. ⌜ r ≤ 2 * h .keys ⌝ }
 {
-    let missing = show_missings(book, h, at, work, n, out);
+    let missing = show_missings(book, h, at, work, n, out, counts);
     if has_wrong(book, h, at, work, n) {
         let from = start_of(out.len(), missing);
-        return missing + show_wrongs(book, h, at, work, n, &mut out[from..]);
+        return missing + show_wrongs(book, h, at, work, n, &mut out[from..], counts);
     }
     missing
 }
@@ -352,13 +385,14 @@ pub fn subvolume_children(
     h: Header,
     at: Places,
     out: &mut [u8],
+    counts: &mut [u64],
     work: &mut [u64],
 ) -> usize
     requires { ⌜ Opened (now book) h at × (2 * h .keys ≤ length (now work)) ⌝ }
-    ensures found { λ r. ⌜ Found (now (out .entry)) (subvolumeChildren (bookOf (now (book .entry)))) r (now (out .exit)) ⌝ }
+    ensures found { λ r. ⌜ Found (sink (now (out .entry)) (now (counts .entry))) (subvolumeChildren (bookOf (now (book .entry)))) r (sink (now (out .exit)) (now (counts .exit))) ⌝ }
     ensures few { λ r. ⌜ r ≤ 2 * h .keys ⌝ }
 {
     let n = put_children(book, h, at, work);
     sorting::sort_pairs(work, n);
-    show_children(book, h, at, work, n, out)
+    show_children(book, h, at, work, n, out, counts)
 }

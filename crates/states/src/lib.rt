@@ -2,7 +2,7 @@
 ghost use mathlib.Core.Path.{_≡_};
 ghost use mathlib.Core.Bool.{_&&_};
 ghost use Prim.Native.Nat.{_+_, _^_, _<_, _≤_};
-ghost use Rattle.findings.specs.Findings.{finding, when, Found, Added};
+ghost use Rattle.findings.specs.Findings.{sink, finding, when, Found, Added};
 ghost use Rattle.book.specs.Book.{bkey};
 ghost use Rattle.states.specs.StateDistance.{distance, stateDistance};
 ghost use Rattle.states.specs.Steps.{wordOrZero};
@@ -92,28 +92,43 @@ fn word_or_zero(value: &[u8], at: usize) -> u32
 }
 
 // The findings of a snapshot's state word.
-fn check_snapshot_state(version: Version, value: &[u8], i: u64, out: &mut [u8], n: usize) -> usize
+fn check_snapshot_state(
+    version: Version,
+    value: &[u8],
+    i: u64,
+    out: &mut [u8],
+    counts: &mut [u64],
+    n: usize,
+) -> usize
     requires { ⌜ n < 2 ^ 62 ⌝ }
-    ensures added { λ r. ⌜ Added (now (out .entry)) n (snapshotState (version .0) i (now (value .entry))) r (now (out .exit)) ⌝ }
+    ensures added { λ r. ⌜ Added (sink (now (out .entry)) (now (counts .entry))) n (snapshotState (version .0) i (now (value .entry))) r (sink (now (out .exit)) (now (counts .exit))) ⌝ }
     ensures few { λ r. ⌜ r ≤ n + 2 ⌝ }
 {
     let word = word_or_zero(value, SNAP_STATE);
     let d = state_distance(word, &SNAP_STATES);
     let required = state_required(version);
-    let n = emit_if(out, n, (0 < d) & (d <= 2), 23, i, 0);
-    emit_if(out, n, (2 < d) & required, 24, i, 0)
+    let n = emit_if(out, counts, n, (0 < d) & (d <= 2), 23, i, 0);
+    emit_if(out, counts, n, (2 < d) & required, 24, i, 0)
 }
 
 // The finding of a subvolume's state that is not set, for versions where it must be.
-fn check_subvolume_state(version: Version, value: &[u8], i: u64, out: &mut [u8], n: usize) -> usize
+fn check_subvolume_state(
+    version: Version,
+    value: &[u8],
+    i: u64,
+    out: &mut [u8],
+    counts: &mut [u64],
+    n: usize,
+) -> usize
     requires { ⌜ n < 2 ^ 62 ⌝ }
-    ensures added { λ r. ⌜ Added (now (out .entry)) n (when (stateRequired (version .0) && subvolStateUnset (now (value .entry))) (finding 25 i 0)) r (now (out .exit)) ⌝ }
+    ensures added { λ r. ⌜ Added (sink (now (out .entry)) (now (counts .entry))) n (when (stateRequired (version .0) && subvolStateUnset (now (value .entry))) (finding 25 i 0)) r (sink (now (out .exit)) (now (counts .exit))) ⌝ }
     ensures few { λ r. ⌜ r ≤ n + 1 ⌝ }
 {
     let word = word_or_zero(value, SUBVOL_STATE);
     let required = state_required(version);
     emit_if(
         out,
+        counts,
         n,
         required & ((16 <= value.len()) & (word == 0)),
         25,
@@ -123,32 +138,46 @@ fn check_subvolume_state(version: Version, value: &[u8], i: u64, out: &mut [u8],
 }
 
 // The findings of a subvolume's state word.
-fn check_subvolume_word(version: Version, word: u32, i: u64, out: &mut [u8], n: usize) -> usize
+fn check_subvolume_word(
+    version: Version,
+    word: u32,
+    i: u64,
+    out: &mut [u8],
+    counts: &mut [u64],
+    n: usize,
+) -> usize
     requires { ⌜ n < 2 ^ 62 ⌝ }
-    ensures added { λ r. ⌜ Added (now (out .entry)) n (subvolumeWord (version .0) i word) r (now (out .exit)) ⌝ }
+    ensures added { λ r. ⌜ Added (sink (now (out .entry)) (now (counts .entry))) n (subvolumeWord (version .0) i word) r (sink (now (out .exit)) (now (counts .exit))) ⌝ }
     ensures few { λ r. ⌜ r ≤ n + 3 ⌝ }
 {
     if word != 0 {
         let d = state_distance(word, &SUBVOL_STATES);
         let required = state_required(version);
-        let n = emit_if(out, n, (0 < d) & (d <= 2), 26, i, 0);
-        let n = emit_if(out, n, 6 < d, 27, i, 0);
-        return emit_if(out, n, ((2 < d) & (d <= 6)) & required, 25, i, 0);
+        let n = emit_if(out, counts, n, (0 < d) & (d <= 2), 26, i, 0);
+        let n = emit_if(out, counts, n, 6 < d, 27, i, 0);
+        return emit_if(out, counts, n, ((2 < d) & (d <= 6)) & required, 25, i, 0);
     }
     n
 }
 
 // The findings of a subvolume's state and pad words.
-fn check_subvolume(version: Version, value: &[u8], i: u64, out: &mut [u8], n: usize) -> usize
+fn check_subvolume(
+    version: Version,
+    value: &[u8],
+    i: u64,
+    out: &mut [u8],
+    counts: &mut [u64],
+    n: usize,
+) -> usize
     requires { ⌜ n < 2 ^ 61 ⌝ }
-    ensures added { λ r. ⌜ Added (now (out .entry)) n (subvolumeState (version .0) i (now (value .entry))) r (now (out .exit)) ⌝ }
+    ensures added { λ r. ⌜ Added (sink (now (out .entry)) (now (counts .entry))) n (subvolumeState (version .0) i (now (value .entry))) r (sink (now (out .exit)) (now (counts .exit))) ⌝ }
     ensures few { λ r. ⌜ r ≤ n + 5 ⌝ }
 {
-    let n = check_subvolume_state(version, value, i, out, n);
+    let n = check_subvolume_state(version, value, i, out, counts, n);
     let word = word_or_zero(value, SUBVOL_STATE);
-    let n = check_subvolume_word(version, word, i, out, n);
+    let n = check_subvolume_word(version, word, i, out, counts, n);
     let pad = word_or_zero(value, SUBVOL_PAD);
-    emit_if(out, n, pad != 0, 28, i, 0)
+    emit_if(out, counts, n, pad != 0, 28, i, 0)
 }
 
 // The findings of the state and pad words of the key number i: of a snapshot's state, and of a subvolume's state and pad.
@@ -158,15 +187,16 @@ pub fn check_state_words(
     value: &[u8],
     i: u64,
     out: &mut [u8],
+    counts: &mut [u64],
 ) -> usize
-    ensures found { λ r. ⌜ Found (now (out .entry)) (checkStateWords (version .0) i (bkey h (now (value .entry)))) r (now (out .exit)) ⌝ }
+    ensures found { λ r. ⌜ Found (sink (now (out .entry)) (now (counts .entry))) (checkStateWords (version .0) i (bkey h (now (value .entry)))) r (sink (now (out .exit)) (now (counts .exit))) ⌝ }
     ensures few { λ r. ⌜ r ≤ 5 ⌝ }
 {
     if ((h.btree == 9) & (h.key_type == 22)) & (24 <= value.len()) {
-        return check_snapshot_state(version, value, i, out, 0);
+        return check_snapshot_state(version, value, i, out, counts, 0);
     }
     if (h.btree == 8) & (h.key_type == 21) {
-        return check_subvolume(version, value, i, out, 0);
+        return check_subvolume(version, value, i, out, counts, 0);
     }
     0
 }

@@ -8,7 +8,8 @@ use native.Mathlib.Omega.{arith}
 use lib.ListN.{length, getD}
 use lib.Dec.{eqb}
 use borrow.Author.Tests.{eq-eqb, ne-eqb}
-use Rattle.findings.specs.Findings.{Finding, finding, only, each, Added}
+use Rattle.findings.specs.Findings.{Finding, finding, only, each, Added, bump, countAll, Sink, sink}
+use Rattle.findings.proofs.Counts.{bumps, bumps-once}
 use Rattle.findings.proofs.Laws.{added-nil, added-full, added-as, added-more}
 use Rattle.findings.proofs.Walk.{each-any, each-append}
 use Rattle.pairs.specs.Pairs.{pair, pairAt, pairsOf, Sorted, countBelow}
@@ -87,8 +88,8 @@ before-end w n group {i} {e} next l g = less-or-not i e (λ a. a) (λ b. absurd 
 
 -- ---- a walk over a group
 
--- the pairs of a group, from `from` on, gave their findings up to pair i, after m others: `found` in all, and the buffer, which was o, is o′ now
-pub record Shown (s w : List ℕ) (n kind group id from : ℕ) (o : List ℕ) (m i found : ℕ) (o′ : List ℕ) : Type 0 where
+-- the pairs of a group, from `from` on, gave their findings up to pair i, after m others: `found` in all, and the sink, which was o, is o′ now
+pub record Shown (s w : List ℕ) (n kind group id from : ℕ) (o : Sink) (m i found : ℕ) (o′ : Sink) : Type 0 where
   pub start : GroupFrom w n group from
   pub past : from ≤ i
   pub inside : i ≤ n
@@ -97,11 +98,11 @@ pub record Shown (s w : List ℕ) (n kind group id from : ℕ) (o : List ℕ) (m
   pub added : Added o m (groupFindings s kind group id (pairsOf w i)) found o′
 
 -- they gave all, r in all, and behind them starts the next group
-abbrev Done : (s w : List ℕ) (n kind group id from : ℕ) (o : List ℕ) (m r : ℕ) (o′ : List ℕ) → Type 0
+abbrev Done : (s w : List ℕ) (n kind group id from : ℕ) (o : Sink) (m r : ℕ) (o′ : Sink) → Type 0
 Done s w n kind group id from o m r o′ =
     Added o m (groupFindings s kind group id (pairsOf w n)) r o′ × ((m ≤ r) × GroupFrom w n (group + 1) (from + (r - m)))
 
-module _ {s w : List ℕ} {n kind group id from : ℕ} {o : List ℕ} {m : ℕ} (fits : Words w) where
+module _ {s w : List ℕ} {n kind group id from : ℕ} {o : Sink} {m : ℕ} (fits : Words w) where
   pub shown-none : GroupFrom w n group from → Shown s w n kind group id from o m from m o
   unfolding pairsOf
   shown-none g = record {
@@ -116,8 +117,8 @@ module _ {s w : List ℕ} {n kind group id from : ℕ} {o : List ℕ} {m : ℕ} 
         added-nil (ap (λ (k : ℕ). groupFindings s kind group id (pairsOf w k)) all ∙ none ∙ group-nil s kind group id);
   }
 
-  module _ {i found : ℕ} {o₁ : List ℕ} (t : Shown s w n kind group id from o m i found o₁) where
-    pub shown-more : i < n → getD w (2 * i) 0 ≡ group → {x r : ℕ} {o₂ : List ℕ} → x ≡ keyAt s (getD w (2 * i + 1) 0) .offset
+  module _ {i found : ℕ} {o₁ : Sink} (t : Shown s w n kind group id from o m i found o₁) where
+    pub shown-more : i < n → getD w (2 * i) 0 ≡ group → {x r : ℕ} {o₂ : Sink} → x ≡ keyAt s (getD w (2 * i + 1) 0) .offset
         → Added o₁ found (finding kind x id ∷ []) r o₂ → Shown s w n kind group id from o m (i + 1) r o₂
     unfolding only
     shown-more l g e a = record {
@@ -130,8 +131,9 @@ module _ {s w : List ℕ} {n kind group id from : ℕ} {o : List ℕ} {m : ℕ} 
     }
 
   -- where no finding fits any more, the buffer stays
-  shown-full : {i found : ℕ} {o₁ : List ℕ} → Shown s w n kind group id from o m i found o₁ → length o₁ / 17 ≤ found → (d : ℕ) → i + d ≤ n
-      → ((k : ℕ) → i ≤ k → k < i + d → getD w (2 * k) 0 ≡ group) → Shown s w n kind group id from o m (i + d) (found + d) o₁
+  shown-full : {i found : ℕ} {o₁ c₁ : List ℕ} → Shown s w n kind group id from o m i found (sink o₁ c₁) → length o₁ / 17 ≤ found → (d : ℕ) → i + d ≤ n
+      → ((k : ℕ) → i ≤ k → k < i + d → getD w (2 * k) 0 ≡ group) → Shown s w n kind group id from o m (i + d) (found + d) (sink o₁ (bumps c₁ kind d))
+  unfolding bumps countAll
   shown-full {i} {found} t h zero l g = rw (add-zero i, add-zero found) t
   shown-full {i} {found} t h (suc d) l g =
       let at : i + suc d ≡ i + d + 1 = omega arith in
@@ -139,7 +141,7 @@ module _ {s w : List ℕ} {n kind group id from : ℕ} {o : List ℕ} {m : ℕ} 
       let before = shown-full t h d (omega arith) (λ k a b. g k a (omega arith)) in
       rw (at, number) (shown-more before (omega arith) (g (i + d) (omega arith) (omega arith)) refl (added-full (omega arith)))
 
-  module _ {i found : ℕ} {o₁ : List ℕ} (t : Shown s w n kind group id from o m i found o₁) where
+  module _ {i found : ℕ} {o₁ : Sink} (t : Shown s w n kind group id from o m i found o₁) where
     -- where no pair from i on is of the group
     shown-done : ((k : ℕ) → i ≤ k → k < n → group + 1 ≤ getD w (2 * k) 0) → Done s w n kind group id from o m found o₁
     shown-done above =
@@ -165,10 +167,10 @@ module _ {s w : List ℕ} {n kind group id from : ℕ} {o : List ℕ} {m : ℕ} 
     shown-all h = shown-done (λ k a b. absurd (omega arith))
 
   -- the rest of the group is counted, where no finding fits any more
-  pub shown-rest : {i found e : ℕ} {o₁ : List ℕ} → Shown s w n kind group id from o m i found o₁ → i < n → getD w (2 * i) 0 ≡ group
-      → length o₁ / 17 ≤ found → GroupFrom w n (group + 1) e → Done s w n kind group id from o m (found + (e - i)) o₁
-  shown-rest {i} {found} {e} t l g h next =
+  pub shown-rest : {i found e : ℕ} {o₁ c₁ c₂ : List ℕ} → Shown s w n kind group id from o m i found (sink o₁ c₁) → i < n → getD w (2 * i) 0 ≡ group
+      → length o₁ / 17 ≤ found → GroupFrom w n (group + 1) e → c₂ ≡ bump c₁ kind (e - i) → Done s w n kind group id from o m (found + (e - i)) (sink o₁ c₂)
+  shown-rest {i} {found} {e} {c₁ = c₁} t l g h next counted =
       let past = before-end w n group next l g in
       let own : (k : ℕ) → i ≤ k → k < i + (e - i) → getD w (2 * k) 0 ≡ group = λ k a b.
       omega (arith, next .below k (omega arith), t .start .above k (omega (arith, t .past)) (omega (arith, next .inside))) in
-      shown-done (shown-full t h (e - i) (omega (arith, next .inside)) own) (λ k a b. next .above k (omega arith) b)
+      rw (counted, ← bumps-once c₁ kind (e - i) (omega arith)) (shown-done (shown-full t h (e - i) (omega (arith, next .inside)) own) (λ k a b. next .above k (omega arith) b))

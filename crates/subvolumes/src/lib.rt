@@ -5,7 +5,7 @@ ghost use mathlib.Core.Bool.{_&&_};
 ghost use Prim.Native.Nat.{_+_, _-_, _*_, _^_, _<_, _≤_};
 ghost use lib.ListN.{length};
 ghost use lib.Dec.{eqb};
-ghost use Rattle.findings.specs.Findings.{each, Found, Added};
+ghost use Rattle.findings.specs.Findings.{sink, each, Found, Added};
 ghost use Rattle.pairs.specs.Pairs.{pairsOf, Sorted};
 ghost use Rattle.book.specs.Book.{bookOf};
 ghost use Rattle.book.specs.Walk.{Opened};
@@ -25,6 +25,7 @@ ghost use Rattle.subvolumes.specs.Steps.{
 use book::Header;
 use book::KeyFront;
 use book::Places;
+use findings::count;
 use findings::emit;
 use findings::emit_if;
 use states::SNAP_LIVE;
@@ -99,9 +100,9 @@ fn run_end(w: &[u64], n: usize, i: usize) -> usize
 }
 
 // The findings of the first n pairs, which are sorted: one for each first word that stands more than once.
-fn show_claims(w: &[u64], n: usize, out: &mut [u8]) -> usize
+fn show_claims(w: &[u64], n: usize, out: &mut [u8], counts: &mut [u64]) -> usize
     requires { ⌜ (2 * n ≤ length (now w)) × (n < 2 ^ 32) × Sorted (pairsOf (now w) n) ⌝ }
-    ensures found { λ r. ⌜ Found (now (out .entry)) (claimFindings (firsts (now (w .entry)) n)) r (now (out .exit)) ⌝ }
+    ensures found { λ r. ⌜ Found (sink (now (out .entry)) (now (counts .entry))) (claimFindings (firsts (now (w .entry)) n)) r (sink (now (out .exit)) (now (counts .exit))) ⌝ }
     ensures few { λ r. ⌜ r ≤ n ⌝ }
 {
     let mut found: usize = 0;
@@ -111,7 +112,7 @@ fn show_claims(w: &[u64], n: usize, out: &mut [u8]) -> usize
         let p = 2 * i;
         let id = w[p];
         let size = e - i;
-        found = emit_if(out, found, 1 < size, 32, id, size as u64);
+        found = emit_if(out, counts, found, 1 < size, 32, id, size as u64);
         i = e;
     }
     found
@@ -123,15 +124,16 @@ pub fn snapshot_claims(
     h: Header,
     at: Places,
     out: &mut [u8],
+    counts: &mut [u64],
     work: &mut [u64],
 ) -> usize
     requires { ⌜ Opened (now book) h at × (2 * h .keys ≤ length (now work)) ⌝ }
-    ensures found { λ r. ⌜ Found (now (out .entry)) (snapshotClaims (bookOf (now (book .entry)))) r (now (out .exit)) ⌝ }
+    ensures found { λ r. ⌜ Found (sink (now (out .entry)) (now (counts .entry))) (snapshotClaims (bookOf (now (book .entry)))) r (sink (now (out .exit)) (now (counts .exit))) ⌝ }
     ensures few { λ r. ⌜ r ≤ h .keys ⌝ }
 {
     let n = put_claims(book, h, at, work);
     sorting::sort_pairs(work, n);
-    show_claims(work, n, out)
+    show_claims(work, n, out, counts)
 }
 
 // Whether the key at byte p is an unlinked or deleted subvolume whose offset is an id of 32 bits.
@@ -245,10 +247,11 @@ fn show_group(
     kind: u8,
     id: u64,
     out: &mut [u8],
+    counts: &mut [u64],
     m: usize,
 ) -> usize
     requires { ⌜ Grouped (now book) (now work) n × GroupFrom (now work) n group from × (n < 2 ^ 32) × (group < 2 ^ 34) × (m < 2 ^ 61) ⌝ }
-    ensures added { λ r. ⌜ Added (now (out .entry)) m (groupFindings (now (book .entry)) kind group id (pairsOf (now (work .entry)) n)) r (now (out .exit)) ⌝ }
+    ensures added { λ r. ⌜ Added (sink (now (out .entry)) (now (counts .entry))) m (groupFindings (now (book .entry)) kind group id (pairsOf (now (work .entry)) n)) r (sink (now (out .exit)) (now (counts .exit))) ⌝ }
     ensures ends { λ r. ⌜ (m ≤ r) × GroupFrom (now (work .entry)) n (group + 1) (from + (r - m)) ⌝ }
 {
     let room = out.len() / 17;
@@ -260,27 +263,37 @@ fn show_group(
             return found;
         }
         if room <= found {
-            return found + (pairs::lower_bound(work, n, group + 1, 0) - i);
+            let more = pairs::lower_bound(work, n, group + 1, 0) - i;
+            count(counts, kind, more as u64);
+            return found + more;
         }
         let place = work[q + 1] as usize;
         let offset = offset_at(book, place);
-        found = emit(out, found, kind, offset, id);
+        found = emit(out, counts, found, kind, offset, id);
         i += 1;
     }
     found
 }
 
 // The findings of a deleted subvolume's snapshots and tree records among the first n pairs: the records' group follows that of the snapshots.
-fn show_deleted(book: &[u8], work: &[u64], n: usize, id: u64, out: &mut [u8], m: usize) -> usize
+fn show_deleted(
+    book: &[u8],
+    work: &[u64],
+    n: usize,
+    id: u64,
+    out: &mut [u8],
+    counts: &mut [u64],
+    m: usize,
+) -> usize
     requires { ⌜ Grouped (now book) (now work) n × (n < 2 ^ 32) × (id < 2 ^ 32) × (m < 2 ^ 60) ⌝ }
-    ensures added { λ r. ⌜ Added (now (out .entry)) m (groupFindings (now (book .entry)) 30 (2 * id) id (pairsOf (now (work .entry)) n) ++ groupFindings (now (book .entry)) 31 (2 * id + 1) id (pairsOf (now (work .entry)) n)) r (now (out .exit)) ⌝ }
+    ensures added { λ r. ⌜ Added (sink (now (out .entry)) (now (counts .entry))) m (groupFindings (now (book .entry)) 30 (2 * id) id (pairsOf (now (work .entry)) n) ++ groupFindings (now (book .entry)) 31 (2 * id + 1) id (pairsOf (now (work .entry)) n)) r (sink (now (out .exit)) (now (counts .exit))) ⌝ }
     ensures few { λ r. ⌜ r ≤ m + n + n ⌝ }
 {
     let group = 2 * id;
     let from = pairs::lower_bound(work, n, group, 0);
-    let found = show_group(book, work, n, from, group, 30, id, out, m);
+    let found = show_group(book, work, n, from, group, 30, id, out, counts, m);
     let next = from + (found - m);
-    show_group(book, work, n, next, group + 1, 31, id, out, found)
+    show_group(book, work, n, next, group + 1, 31, id, out, counts, found)
 }
 
 // The findings of the key at byte p, if it is an unavailable subvolume, by the first n pairs of states.
@@ -291,18 +304,19 @@ fn show_subvolume(
     work: &[u64],
     n: usize,
     out: &mut [u8],
+    counts: &mut [u64],
     m: usize,
 ) -> usize
     requires { ⌜ AtKey (now book) p f × Grouped (now book) (now work) n × (n < 2 ^ 32) × (m < 2 ^ 59) ⌝ }
-    ensures added { λ r. ⌜ Added (now (out .entry)) m (judged (now (book .entry)) (pairsOf (now (work .entry)) n) (keyAt (now (book .entry)) p)) r (now (out .exit)) ⌝ }
+    ensures added { λ r. ⌜ Added (sink (now (out .entry)) (now (counts .entry))) m (judged (now (book .entry)) (pairsOf (now (work .entry)) n) (keyAt (now (book .entry)) p)) r (sink (now (out .exit)) (now (counts .exit))) ⌝ }
     ensures few { λ r. ⌜ r ≤ m + 1 + n + n ⌝ }
 {
     if is_gone(book, p, f) {
         let id = walk::key_offset(book, p, f);
         let state = walk::key_word(book, p, f, SUBVOL_STATE);
-        let found = emit_if(out, m, id == 1, 29, 1, 0);
+        let found = emit_if(out, counts, m, id == 1, 29, 1, 0);
         if state == SUBVOL_DELETED {
-            return show_deleted(book, work, n, id, out, found);
+            return show_deleted(book, work, n, id, out, counts, found);
         }
         return found;
     }
@@ -317,9 +331,10 @@ fn show_subvolumes(
     work: &[u64],
     n: usize,
     out: &mut [u8],
+    counts: &mut [u64],
 ) -> usize
     requires { ⌜ Opened (now book) h at × Grouped (now book) (now work) n × (n ≤ h .keys) ⌝ }
-    ensures found { λ r. ⌜ Found (now (out .entry)) (each (λ _ k. judged (now (book .entry)) (pairsOf (now (work .entry)) n) k) 0 (bookOf (now (book .entry)) .keys)) r (now (out .exit)) ⌝ }
+    ensures found { λ r. ⌜ Found (sink (now (out .entry)) (now (counts .entry))) (each (λ _ k. judged (now (book .entry)) (pairsOf (now (work .entry)) n) k) 0 (bookOf (now (book .entry)) .keys)) r (sink (now (out .exit)) (now (counts .exit))) ⌝ }
     ensures few { λ r. ⌜ r ≤ h .keys * 74899 ⌝ }
 {
     let mut found: usize = 0;
@@ -327,7 +342,7 @@ fn show_subvolumes(
     let mut p = at.keys;
     while 0 < left {
         let f = book::key_front(book, p);
-        found = show_subvolume(book, p, f, work, n, out, found);
+        found = show_subvolume(book, p, f, work, n, out, counts, found);
         p = p + 28 + f.len;
         left -= 1;
     }
@@ -370,15 +385,16 @@ pub fn subvolume_states(
     h: Header,
     at: Places,
     out: &mut [u8],
+    counts: &mut [u64],
     work: &mut [u64],
 ) -> usize
     requires { ⌜ Opened (now book) h at × (2 * h .keys ≤ length (now work)) ⌝ }
-    ensures found { λ r. ⌜ Found (now (out .entry)) (subvolumeStates (bookOf (now (book .entry)))) r (now (out .exit)) ⌝ }
+    ensures found { λ r. ⌜ Found (sink (now (out .entry)) (now (counts .entry))) (subvolumeStates (bookOf (now (book .entry)))) r (sink (now (out .exit)) (now (counts .exit))) ⌝ }
     ensures few { λ r. ⌜ r ≤ h .keys * 74899 ⌝ }
 {
     if has_gone(book, h, at) {
         let n = sort_states(book, h, at, work);
-        return show_subvolumes(book, h, at, work, n, out);
+        return show_subvolumes(book, h, at, work, n, out, counts);
     }
     0
 }

@@ -6,7 +6,7 @@ use native.Mathlib.Omega.{arith}
 use lib.ListN.{length, getD}
 use Rattle.bits.specs.Bits.{bitsAt, beAt}
 use Rattle.bits.proofs.Laws.{bits-lt, bits-be}
-use Rattle.findings.specs.Findings.{Finding, Added, each}
+use Rattle.findings.specs.Findings.{Finding, Sink, Added, each}
 use Rattle.findings.proofs.Walk.{rule, Begun, turn, each-cons, each-next}
 use Rattle.book.specs.declared.KeyFront.{KeyFront}
 use Rattle.book.specs.Book.{Bkey, keyHead, keyEnd, keyOf, keysFrom}
@@ -38,7 +38,7 @@ unfolding keyHead
 offset-lt s p = bits-lt s (8 * p + 128) 64
 
 -- a turn of a rule's walk over the keys, and the same where the rule ignores the index
-module _ {all : List Finding} {o o₁ o₂ : List ℕ} {n r : ℕ} where
+module _ {all : List Finding} {o o₁ o₂ : Sink} {n r : ℕ} where
   pub turn-keys : (at : ℕ → Bkey → List Finding) (s : List ℕ) (i left p : ℕ) {f : KeyFront} → 0 < left → KeysFit s left p → f ≡ frontOf (keyHead s p)
       → Begun all o (each at i (keysFrom s left p)) n o₁ → Added o₁ n (at i (keyOf s (keyHead s p))) r o₂
       → Begun all o (each at (i + 1) (keysFrom s (left - 1) (p + 28 + f .len))) r o₂

@@ -10,9 +10,9 @@ use Rattle.buckets.proofs.gen_at.Tie as tie
 returns : tie.Need-returns
 unfolding genAt bucketOf
 returns c =
-    let a = c .before .before .before .before .before .before .before .args in
+    let a = c .before .before .before .before .before .before .before .before .before .before .before .args in
     let low : a .offset % 0x100000000000000 * 256 ≡ a .offset * 256 % 2 ^ 64 = omega arith in
-    (rw (← low, ← c .before .before .before .before .generation .ensures) (c .before .before .emit-if .ensures .0), omega arith)
+    (rw (← low, ← c .before .before .before .before .before .before .before .generation .ensures) (c .before .before .before .before .emit-if .ensures .0), omega arith)
 
 pub gen-at-spec : {M : Type 1} → statement M
 gen-at-spec =
@@ -22,5 +22,6 @@ gen-at-spec =
     (λ c. search needs)
     (λ c κs. search needs)
     (λ c κs. search needs)
+    (λ c. search needs)
     (λ c. search needs)
     returns)

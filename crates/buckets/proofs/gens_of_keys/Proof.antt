@@ -2,7 +2,8 @@
 use Prim.Native.Nat.{_+_, _*_, _≤_}
 use mathlib.Core.Path.{_≡_, refl}
 use lib.ListN.{length}
-use Rattle.findings.proofs.Walk.{Walk, first, last, each-none, begun-length}
+use Rattle.findings.specs.Findings.{sink}
+use Rattle.findings.proofs.Walk.{Walk, first, last, each-none, begun-length, begun-counts}
 use Rattle.book.specs.Book.{keysFrom, bookOf}
 use Rattle.book.proofs.Walk.{parts, step}
 use Rattle.walk.proofs.Keys.{keys-none, turn-keys-any}
@@ -14,25 +15,25 @@ use Rattle.buckets.proofs.gens_of_keys.Statement.{statement}
 use Rattle.buckets.proofs.gens_of_keys.Tie as tie
 
 abbrev Inv-loop : tie.InvT-loop
-Inv-loop book h at out₀ work₀ c₀ left₀ p₀ out work c left p =
+Inv-loop book h at out₀ counts₀ work₀ c₀ left₀ p₀ out counts work c left p =
     (c .found + left * 256 ≤ h .keys * 256) × Gathered (coverPair (h .device)) book left₀ p₀ work (c .put) left p × (length work ≡ length work₀)
-    × Walk (λ _ k. keyGens (h .device) (bookOf book .gens) k) (bookOf book .keys) out₀ 0 (keysFrom book left p) (c .found) out
+    × Walk (λ _ k. keyGens (h .device) (bookOf book .gens) k) (bookOf book .keys) (sink out₀ counts₀) 0 (keysFrom book left p) (c .found) (sink out counts)
 
 abbrev μ-loop : tie.MeasureT-loop
-μ-loop book h at out₀ work₀ c₀ left₀ p₀ out work c left p = left
+μ-loop book h at out₀ counts₀ work₀ c₀ left₀ p₀ out counts work c left p = left
 
 loop-holds : tie.Need-loop-holds Inv-loop μ-loop
 loop-holds c =
-    let o = parts (c .before .before .before .pre .0) in
+    let o = parts (c .before .before .before .before .pre .0) in
     (omega arith, none-yet (o .keys-fit), refl, rw (o .keys) first)
 
 loop-again : tie.Need-loop-again Inv-loop μ-loop
 loop-again c =
-    let l = c .before .before .before .before .before .before .before .before .before .before .loop .inv in
-    let left = c .before .before .before .before .before .before .before .before .before .loop-test .taken in
-    let front = c .before .before .before .before .before .before .before .before .key-front .ensures in
-    let taken = c .before .before .before .before .before .take-gens .ensures in
-    let ends = at-end (at-key (parts (c .before .before .before .before .before .before .before .before .before .before .before .before .before .before .pre .0) .small) left (l .1 .fit) front) in (
+    let l = c .before .before .before .before .before .before .before .before .before .before .before .before .before .loop .inv in
+    let left = c .before .before .before .before .before .before .before .before .before .before .before .before .loop-test .taken in
+    let front = c .before .before .before .before .before .before .before .before .before .before .before .key-front .ensures in
+    let taken = c .before .before .before .before .before .before .before .take-gens .ensures in
+    let ends = at-end (at-key (parts (c .before .before .before .before .before .before .before .before .before .before .before .before .before .before .before .before .before .before .pre .0) .small) left (l .1 .fit) front) in (
       omega (arith, l .0, left, taken .1 .1 .0),
       one-more (l .1) left (taken .1 .1 .1) (taken .1 .0) ends,
       search needs,
@@ -51,13 +52,14 @@ gens-of-keys-spec =
     Inv-loop
     μ-loop
     loop-holds
-    (λ c κs. omega (arith, parts (c .before .before .before .before .before .pre .0) .small, step _ _ _ (c .loop-test .taken) (c .before .loop .inv .1 .fit) .head))
-    (λ c κs. (c .before .before .before .before .before .before .before .before .pre .0, at-key (parts (c .before .before .before .before .before .before .before .before .pre .0) .small) (c .before .before .before .loop-test .taken) (c .before .before .before .before .loop .inv .1 .fit) (c .before .before .key-front .ensures), omega (arith, c .before .before .before .before .loop .inv .0), omega (arith, c .before .before .before .before .loop .inv .1 .few, c .before .before .before .before .loop .inv .2, c .before .before .before .loop-test .taken, c .before .before .before .before .before .before .before .before .pre .1)))
-    (λ c. let k = at-key (parts (c .before .before .before .before .before .before .before .before .before .before .before .before .before .pre .0) .small) (c .before .before .before .before .before .before .before .before .loop-test .taken) (c .before .before .before .before .before .before .before .before .before .loop .inv .1 .fit) (c .before .before .before .before .before .before .before .key-front .ensures) in omega (arith, at-end k, k .inside, k .small))
-    (λ c. let k = at-key (parts (c .before .before .before .before .before .before .before .before .before .before .before .before .before .before .pre .0) .small) (c .before .before .before .before .before .before .before .before .before .loop-test .taken) (c .before .before .before .before .before .before .before .before .before .before .loop .inv .1 .fit) (c .before .before .before .before .before .before .before .before .key-front .ensures) in omega (arith, at-end k, k .inside, k .small))
-    (λ c. omega (arith, c .before .before .before .before .before .before .before .before .before .loop-test .taken))
-    (λ c. omega (arith, c .before .before .before .before .before .before .before .before .before .loop-test .taken))
+    (λ c κs. omega (arith, parts (c .before .before .before .before .before .before .pre .0) .small, step _ _ _ (c .loop-test .taken) (c .before .loop .inv .1 .fit) .head))
+    (λ c κs. (c .before .before .before .before .before .before .before .before .before .before .pre .0, at-key (parts (c .before .before .before .before .before .before .before .before .before .before .pre .0) .small) (c .before .before .before .before .loop-test .taken) (c .before .before .before .before .before .loop .inv .1 .fit) (c .before .before .before .key-front .ensures), omega (arith, c .before .before .before .before .before .loop .inv .0), omega (arith, c .before .before .before .before .before .loop .inv .1 .few, c .before .before .before .before .before .loop .inv .2, c .before .before .before .before .loop-test .taken, c .before .before .before .before .before .before .before .before .before .before .pre .1)))
+    (λ c. let k = at-key (parts (c .before .before .before .before .before .before .before .before .before .before .before .before .before .before .before .before .before .pre .0) .small) (c .before .before .before .before .before .before .before .before .before .before .before .loop-test .taken) (c .before .before .before .before .before .before .before .before .before .before .before .before .loop .inv .1 .fit) (c .before .before .before .before .before .before .before .before .before .before .key-front .ensures) in omega (arith, at-end k, k .inside, k .small))
+    (λ c. let k = at-key (parts (c .before .before .before .before .before .before .before .before .before .before .before .before .before .before .before .before .before .before .pre .0) .small) (c .before .before .before .before .before .before .before .before .before .before .before .before .loop-test .taken) (c .before .before .before .before .before .before .before .before .before .before .before .before .before .loop .inv .1 .fit) (c .before .before .before .before .before .before .before .before .before .before .before .key-front .ensures) in omega (arith, at-end k, k .inside, k .small))
+    (λ c. omega (arith, c .before .before .before .before .before .before .before .before .before .before .before .before .loop-test .taken))
+    (λ c. omega (arith, c .before .before .before .before .before .before .before .before .before .before .before .before .loop-test .taken))
     loop-again
     (λ c. begun-length (c .before .loop .inv .3))
+    (λ c. begun-counts (c .before .loop .inv .3))
     (λ c. c .before .loop .inv .2)
     returns)

@@ -12,10 +12,10 @@ use Rattle.buckets.proofs.take_gens.Tie as tie
 
 returns : tie.Need-returns
 returns c =
-    let a = c .before .before .before .before .before .before .before .before .before .before .before .before .before .before .before .args in
-    let test = c .before .before .before .before .before .before .before .before .before .before .before .is-gens .ensures in
-    let taken = c .before .before .before .before .before .before .before .before .before .before .if1 .taken in
-    let found = c .before .before .before .before .before .before .before .before .key-gens .ensures in
+    let a = c .before .before .before .before .before .before .before .before .before .before .before .before .before .before .before .before .before .before .before .args in
+    let test = c .before .before .before .before .before .before .before .before .before .before .before .before .before .before .is-gens .ensures in
+    let taken = c .before .before .before .before .before .before .before .before .before .before .before .before .before .if1 .taken in
+    let found = c .before .before .before .before .before .before .before .before .before .before .key-gens .ensures in
     let yes = cover-yes (a .h .device) (a .p) _ (sym test ∙ taken) (c .before .before .before .before .key-offset .ensures) in (
       added-only test taken (found .0),
       (c .before .before .before .put-pair .ensures .0 ∙ ap (λ (l : List ℕ). pairsOf (a .work .now) (a .c .put) ++ l) yes, (found .1, omega arith)),
@@ -23,7 +23,7 @@ returns c =
 
 returns-2 : tie.Need-returns-2
 returns-2 c =
-    let a = c .before .before .before .before .before .args in
+    let a = c .before .before .before .before .before .before .args in
     let test = c .before .is-gens .ensures in
     let no = cover-no (a .h .device) (a .p) _ (sym test ∙ c .if1 .left) in
     (added-not _ test (c .if1 .left), (rw (no, append-nil (pairsOf (a .work .now) (a .c .put))), (omega arith, omega arith)))
@@ -36,7 +36,8 @@ take-gens-spec =
     (λ c κs. search needs)
     (λ c κs. search needs)
     (λ c κs. search needs)
-    (λ c. omega (arith, c .before .before .before .before .before .before .before .before .before .before .before .before .before .before .before .pre .3, c .before .before .before .before .before .before .before .before .before .before .before .before .before .before .before))
+    (λ c. omega (arith, c .before .before .before .before .before .before .before .before .before .before .before .before .before .before .before .before .before .before .before .pre .3, c .before .before .before .before .before .before .before .before .before .before .before .before .before .before .before .before .before .before .before))
+    (λ c. search needs)
     (λ c. search needs)
     (λ c. search needs)
     returns

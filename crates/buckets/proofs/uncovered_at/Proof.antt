@@ -14,12 +14,12 @@ use Rattle.buckets.proofs.uncovered_at.Tie as tie
 
 returns : tie.Need-returns
 returns c =
-    let s = c .before .before .before .before .before .before .before .before .before .before .args .book .now in
-    let p = c .before .before .before .before .before .before .before .before .before .before .args .p in
-    let bytes : (j : ℕ) → getD s j 0 < 256 = λ j. c .before .before .before .before .before .before .before .before .before .shared-slice-known .given j .fits in
-    let bucket = c .before .before .before .before .before .before .be64 .ensures ∙ sym (first-be gensTable s bytes p 8 refl) in
-    let generation = c .before .before .before .before .before .byte .ensures .0 ∙ sym (be-one s (p + 8)) ∙ sym (rest-be gensTable s bytes p 8 refl 1 refl) in
-    (added-as (not-covered _ _ _ bucket generation (c .before .before .before .before .has-pair .ensures)) (c .before .before .emit-if .ensures .0), omega arith)
+    let s = c .before .before .before .before .before .before .before .before .before .before .before .before .before .before .args .book .now in
+    let p = c .before .before .before .before .before .before .before .before .before .before .before .before .before .before .args .p in
+    let bytes : (j : ℕ) → getD s j 0 < 256 = λ j. c .before .before .before .before .before .before .before .before .before .before .before .before .before .shared-slice-known .given j .fits in
+    let bucket = c .before .before .before .before .before .before .before .before .before .be64 .ensures ∙ sym (first-be gensTable s bytes p 8 refl) in
+    let generation = c .before .before .before .before .before .before .before .before .byte .ensures .0 ∙ sym (be-one s (p + 8)) ∙ sym (rest-be gensTable s bytes p 8 refl 1 refl) in
+    (added-as (not-covered _ _ _ bucket generation (c .before .before .before .before .before .before .before .has-pair .ensures)) (c .before .before .before .before .emit-if .ensures .0), omega arith)
 
 pub uncovered-at-spec : {M : Type 1} → statement M
 uncovered-at-spec =
@@ -31,5 +31,6 @@ uncovered-at-spec =
     (λ c κs. search needs)
     (λ c. search needs)
     (λ c κs. search needs)
+    (λ c. search needs)
     (λ c. search needs)
     returns)

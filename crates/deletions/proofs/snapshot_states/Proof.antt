@@ -12,11 +12,11 @@ use Rattle.deletions.proofs.snapshot_states.Tie as tie
 
 returns : tie.Need-returns
 returns c =
-    let a = c .before .before .before .before .before .before .before .before .before .before .before .before .before .before .before .before .args in
+    let a = c .before .before .before .before .before .before .before .before .before .before .before .before .before .before .before .before .before .before .before .before .args in
     let s = a .book .now in
-    let sorted = c .before .before .before .before .before .before .before .sort-pairs .ensures .0 ∙ ap sort (c .before .before .before .before .before .before .before .before .before .before .before .put-sets .ensures .0) in
-    let all = parts (c .before .before .before .before .before .before .before .before .before .before .before .before .before .before .before .before .pre .0) in
-    (rw (← sets-all (bookOf s) s (a .h .keys) (a .at .keys) (all .small) (all .keys-fit) (all .keys) sorted) (c .before .before .show-snapshots .ensures .0), omega arith)
+    let sorted = c .before .before .before .before .before .before .before .before .before .before .sort-pairs .ensures .0 ∙ ap sort (c .before .before .before .before .before .before .before .before .before .before .before .before .before .before .put-sets .ensures .0) in
+    let all = parts (c .before .before .before .before .before .before .before .before .before .before .before .before .before .before .before .before .before .before .before .before .pre .0) in
+    (rw (← sets-all (bookOf s) s (a .h .keys) (a .at .keys) (all .small) (all .keys-fit) (all .keys) sorted) (c .before .before .before .before .show-snapshots .ensures .0), omega arith)
 
 pub snapshot-states-spec : {M : Type 1} → statement M
 snapshot-states-spec =
@@ -24,7 +24,8 @@ snapshot-states-spec =
     (tie.spec
     (λ c κs. search needs)
     (λ c κs. search needs)
-    (λ c κs. (c .before .before .before .before .before .before .before .before .before .before .before .before .before .pre .0, omega arith, sorted-by _ _ (c .before .before .before .before .sort-pairs .ensures .0)))
+    (λ c κs. (c .before .before .before .before .before .before .before .before .before .before .before .before .before .before .before .pre .0, omega arith, sorted-by _ _ (c .before .before .before .before .before .sort-pairs .ensures .0)))
+    (λ c. search needs)
     (λ c. search needs)
     (λ c. search needs)
     returns)

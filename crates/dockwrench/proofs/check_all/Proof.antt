@@ -7,7 +7,10 @@ use Rattle.dockwrench.proofs.check_all.Statement.{statement}
 use Rattle.dockwrench.proofs.check_all.Tie as tie
 
 returns : tie.Need-returns
-returns c = (c .before .before .before .before .before .before .before .before .judge .ensures .0, (zeros-as _ (length (now (c .before .before .before .before .before .before .before .before .before .before .before .before .before .before .args .work))) (c .before .before .zero-words .ensures) (search needs), c .before .before .before .before .before .before .before .before .judge .ensures .1))
+returns c =
+    let judged = c .before .before .before .before .before .before .before .before .before .before .judge .ensures in
+    let work = c .before .before .before .before .before .before .before .before .before .before .before .before .before .before .before .before .before .before .args .work .now in
+    (judged .0, (zeros-as _ (length work) (c .before .before .zero-words .ensures) (search needs), judged .1 .0))
 
 pub check-all-spec : {M : Type 1} → statement M
 check-all-spec =
@@ -15,6 +18,7 @@ check-all-spec =
     (tie.spec
     (λ c κs. search needs)
     (λ c κs. search needs)
+    (λ c. search needs)
     (λ c. search needs)
     (λ c. search needs)
     returns)

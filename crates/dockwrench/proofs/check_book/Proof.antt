@@ -19,10 +19,11 @@ returns c =
 returns-2 : tie.Need-returns-2
 unfolding checkBook bookBuffer bookWork
 returns-2 c =
-    let e = short-not {words = length (now (c .before .before .before .before .before .before .before .before .before .before .before .before .before .args .work))} (c .before .before .before .before .before .before .before .before .before .before .before .before .before .pre) (omega (arith, c .before .before .before .before .before .before .before .before .if1 .left)) in
-    let all = c .before .before .before .before .before .check-all in
+    let t = c .before .before .before .before .before .before .before .before .before .before .before .before .before .before .before in
+    let e = short-not {words = length (t .args .work .now)} (t .pre) (omega (arith, c .before .before .before .before .before .before .before .before .before .before .if1 .left)) in
+    let all = c .before .before .before .before .before .before .check-all in
     let count = c .count-in in (
-      rw e (count .ensures ∙ ap (λ (n : ℕ). countIn (length (now (c .before .before .before .before .before .before .before .before .before .before .before .before .before .args .findings))) n) (all .ensures .0 .count)),
+      rw e (count .ensures ∙ ap (λ (n : ℕ). countIn (length (t .args .findings .now)) n) (all .ensures .0 .count)),
       (rw e (all .ensures .0 .buffer), (rw e (all .ensures .1 .0), count-few _ _ (count .ensures) (all .ensures .1 .1))),
     )
 
@@ -33,8 +34,9 @@ check-book-spec =
     (λ c. search needs)
     (λ c. search needs)
     returns
-    (λ c κs. (c .before .before .before .before .before .before .before .pre, omega (arith, c .before .before .if1 .left)))
-    (λ c κs. c .before .before .before .before .check-all .ensures .1 .1)
+    (λ c. search needs)
+    (λ c κs. (c .before .before .before .before .before .before .before .before .pre, omega (arith, c .before .before .before .if1 .left)))
+    (λ c κs. c .before .before .before .before .before .check-all .ensures .1 .1)
     (λ c. search needs)
     (λ c. search needs)
     returns-2)

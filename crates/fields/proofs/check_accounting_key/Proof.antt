@@ -17,9 +17,9 @@ returns-2 : tie.Need-returns-2
 unfolding accountingKind accountingPositionBytes
 returns-2 c = (
   added-as
-      (accounting-found _ _ (not-false _ (c .before .before .before .before .before .before .before .before .before .before .before .before .before .before .before .before .before .before .if1 .left)) (c .before .before .before .before .before .before .before .before .before .before .before .before .before .before .before .before .before .accounting-position-bytes .ensures) (c .before .before .before .before .before .before .before .before .before .before .before .before .before .before .junk-at-end .ensures)
-      (c .before .before .before .before .before .before .before .before .before .replicas-entry-refused .ensures) (c .before .before .before .counters-bad .ensures))
-      (added-more (c .before .before .before .before .before .before .before .before .before .before .before .before .before .emit-if .ensures .0) (added-more (c .before .before .before .before .before .before .before .emit-if2 .ensures .0) (c .before .before .emit-if3 .ensures .0))),
+      (accounting-found _ _ (not-false _ (c .before .before .before .before .before .before .before .before .before .before .before .before .before .before .before .before .before .before .before .before .before .before .before .before .before .before .before .if1 .left)) (c .before .before .before .before .before .before .before .before .before .before .before .before .before .before .before .before .before .before .before .before .before .before .before .before .before .before .accounting-position-bytes .ensures) (c .before .before .before .before .before .before .before .before .before .before .before .before .before .before .before .before .before .before .before .before .before .before .junk-at-end .ensures)
+      (c .before .before .before .before .before .before .before .before .before .before .before .before .before .before .before .replicas-entry-refused .ensures) (c .before .before .before .before .before .counters-bad .ensures))
+      (added-more (c .before .before .before .before .before .before .before .before .before .before .before .before .before .before .before .before .before .before .before .before .before .emit-if .ensures .0) (added-more (c .before .before .before .before .before .before .before .before .before .before .before .before .emit-if2 .ensures .0) (c .before .before .before .before .emit-if3 .ensures .0))),
   omega arith,
 )
 
@@ -35,5 +35,6 @@ check-accounting-key-spec =
     (λ c κs. search needs)
     (λ c κs. search needs)
     (λ c κs. search needs)
+    (λ c. search needs)
     (λ c. search needs)
     returns-2)

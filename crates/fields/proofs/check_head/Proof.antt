@@ -11,8 +11,8 @@ use Rattle.fields.proofs.check_head.Tie as tie
 returns : tie.Need-returns
 unfolding checkHead sizeBad snapshotBad minimumValue is
 returns c = (
-  rw (← c .before .before .before .before .before .before .before .before .before .before .before .before .before .size-bad .ensures, ← c .before .before .before .before .before .before .before .before .snapshot-bad .ensures, ← c .before .before .before .minimum-value .ensures)
-      (added-more (c .before .before .before .before .before .before .before .before .before .before .before .before .emit-if .ensures .0) (added-more (c .before .before .before .before .before .before .before .emit-if2 .ensures .0) (c .before .before .emit-if3 .ensures .0))),
+  rw (← c .before .before .before .before .before .before .before .before .before .before .before .before .before .before .before .before .before .before .before .before .before .size-bad .ensures, ← c .before .before .before .before .before .before .before .before .before .before .before .before .before .snapshot-bad .ensures, ← c .before .before .before .before .before .minimum-value .ensures)
+      (added-more (c .before .before .before .before .before .before .before .before .before .before .before .before .before .before .before .before .before .before .before .before .emit-if .ensures .0) (added-more (c .before .before .before .before .before .before .before .before .before .before .before .before .emit-if2 .ensures .0) (c .before .before .before .before .emit-if3 .ensures .0))),
   omega arith,
 )
 
@@ -26,5 +26,6 @@ check-head-spec =
     (λ c κs. search needs)
     (λ c κs. search needs)
     (λ c κs. search needs)
+    (λ c. search needs)
     (λ c. search needs)
     returns)

@@ -15,8 +15,8 @@ returns c = (added-not _ refl (lt-leb 48 _ (c .if1 .taken)), omega arith)
 returns-2 : tie.Need-returns-2
 unfolding checkInodeV3Word
 returns-2 c = (
-  rw (← c .before .before .before .before .before .before .before .before .le64 .ensures)
-      (added-only refl (le-leb 48 _ (c .before .before .before .before .before .before .before .before .before .if1 .left)) (added-more (c .before .before .before .before .before .before .emit-if .ensures .0) (c .before .before .emit-if2 .ensures .0))),
+  rw (← c .before .before .before .before .before .before .before .before .before .before .before .before .before .before .le64 .ensures)
+      (added-only refl (le-leb 48 _ (c .before .before .before .before .before .before .before .before .before .before .before .before .before .before .before .if1 .left)) (added-more (c .before .before .before .before .before .before .before .before .before .before .before .emit-if .ensures .0) (c .before .before .before .before .emit-if2 .ensures .0))),
   omega arith,
 )
 
@@ -29,5 +29,6 @@ check-inode-v3-word-spec =
     (λ c κs. search needs)
     (λ c. search needs)
     (λ c κs. search needs)
+    (λ c. search needs)
     (λ c. search needs)
     returns-2)

@@ -9,8 +9,8 @@ use Rattle.fields.proofs.check_key_device.Tie as tie
 returns : tie.Need-returns
 unfolding checkKeyDevice
 returns c =
-    let away = c .before .before .before .before .before .before .before .before .before .before .before .elsewhere .ensures in
-    (rw (← away) (more (begin (c .before .before .before .before .before .before .before .emit-if .ensures .0)) (c .before .before .emit-if2 .ensures .0)), omega arith)
+    let away = c .before .before .before .before .before .before .before .before .before .before .before .before .before .before .before .before .before .elsewhere .ensures in
+    (rw (← away) (more (begin (c .before .before .before .before .before .before .before .before .before .before .before .before .emit-if .ensures .0)) (c .before .before .before .before .emit-if2 .ensures .0)), omega arith)
 
 pub check-key-device-spec : {M : Type 1} → statement M
 check-key-device-spec =
@@ -19,5 +19,6 @@ check-key-device-spec =
     (λ c κs. search needs)
     (λ c κs. search needs)
     (λ c κs. search needs)
+    (λ c. search needs)
     (λ c. search needs)
     returns)

@@ -9,7 +9,7 @@ use Rattle.fields.proofs.check_position.Tie as tie
 
 returns : tie.Need-returns
 unfolding kindFound
-returns c = (added-as (sym (c .before .before .before .before .position-kind .ensures (c .before .before .before .before .before .before .before .args .i))) (c .before .before .emit-if .ensures .0), omega arith)
+returns c = (added-as (sym (c .before .before .before .before .before .before .before .position-kind .ensures (c .before .before .before .before .before .before .before .before .before .before .before .args .i))) (c .before .before .before .before .emit-if .ensures .0), omega arith)
 
 pub check-position-spec : {M : Type 1} → statement M
 check-position-spec =
@@ -17,5 +17,6 @@ check-position-spec =
     (tie.spec
     (λ c κs. search needs)
     (λ c κs. search needs)
+    (λ c. search needs)
     (λ c. search needs)
     returns)

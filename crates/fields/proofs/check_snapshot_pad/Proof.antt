@@ -15,7 +15,7 @@ returns c = (rw (lt-leb 64 _ (c .if1 .taken)) (added-nil refl), omega arith)
 
 returns-2 : tie.Need-returns-2
 unfolding checkSnapshotPad
-returns-2 c = (rw (le-leb 64 _ (c .before .before .before .before .before .if1 .left), ← c .before .before .before .le32 .ensures) (c .before .before .emit-if .ensures .0), omega arith)
+returns-2 c = (rw (le-leb 64 _ (c .before .before .before .before .before .before .before .before .if1 .left), ← c .before .before .before .before .before .le32 .ensures) (c .before .before .before .before .emit-if .ensures .0), omega arith)
 
 pub check-snapshot-pad-spec : {M : Type 1} → statement M
 check-snapshot-pad-spec =
@@ -24,5 +24,6 @@ check-snapshot-pad-spec =
     returns
     (λ c κs. search needs)
     (λ c κs. search needs)
+    (λ c. search needs)
     (λ c. search needs)
     returns-2)

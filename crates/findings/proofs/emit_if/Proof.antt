@@ -13,5 +13,6 @@ emit-if-spec =
     (tie.spec
     (λ c κs. search needs)
     (λ c. search needs)
-    (λ c. (rw (c .before .before .before .before .if1 .taken) (c .before .before .emit .ensures), omega arith))
+    (λ c. search needs)
+    (λ c. (rw (c .before .before .before .before .before .before .before .if1 .taken) (c .before .before .before .before .emit .ensures), omega arith))
     (λ c. (added-nil (rw (c .if1 .left)), omega arith)))

@@ -10,9 +10,9 @@ use Rattle.judge.proofs.judge_across.Tie as tie
 returns : tie.Need-returns
 unfolding acrossRules
 returns c =
-    let one = c .before .before .before .before .before .before .before .before .before .before .before .before .judge-first in
-    let two = c .before .before .before .before .judge-last in
-    let from = c .before .before .before .before .before .before .before .start-of in
+    let one = c .before .before .before .before .before .before .before .before .before .before .before .before .before .before .before .before .before .judge-first in
+    let two = c .before .before .before .before .before .before .judge-last in
+    let from = c .before .before .before .before .before .before .before .before .before .before .start-of in
     (more-lent (from .result) (one .result) (two .result) (from .ensures) (one .ensures .0) (two .ensures .0), omega (arith, one .ensures .1, two .ensures .1))
 
 pub judge-across-spec : {M : Type 1} → statement M
@@ -25,7 +25,8 @@ judge-across-spec =
     (λ c. search needs)
     (λ c. search needs)
     (λ c κs. search needs)
-    (λ c. omega (arith, c .before .before .before .before .before .before .before .before .before .before .before .before .judge-first .ensures .1, c .before .before .before .before .judge-last .ensures .1, few-keys (c .before .before .before .before .before .before .before .before .before .before .before .before .before .before .before .before .before .before .pre .0)))
+    (λ c. omega (arith, c .before .before .before .before .before .before .before .before .before .before .before .before .before .before .before .before .before .judge-first .ensures .1, c .before .before .before .before .before .before .judge-last .ensures .1, few-keys (c .before .before .before .before .before .before .before .before .before .before .before .before .before .before .before .before .before .before .before .before .before .before .before .before .before .pre .0)))
+    (λ c. search needs)
     (λ c. search needs)
     (λ c. search needs)
     returns)

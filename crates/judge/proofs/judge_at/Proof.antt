@@ -12,16 +12,16 @@ use Rattle.judge.proofs.judge_at.Tie as tie
 
 returns : tie.Need-returns
 returns c =
-    let a = c .before .before .before .before .args in
+    let a = c .before .before .before .before .before .args in
     (added-nil (quiet-none (now (a .book)) (a .i) _ (sym (c .before .is-quiet .ensures) ∙ c .if1 .taken)), omega arith)
 
 returns-2 : tie.Need-returns-2
 returns-2 c =
-    let a = c .before .before .before .before .before .before .before .before .before .before .before .before .args in
-    let head = c .before .before .before .before .before .before .before .key-head in
-    let from = c .before .before .before .before .before .start-of in
-    let found = c .before .before .judge-key in
-    (added-as (key-judged (c .before .before .before .before .before .before .before .before .before .before .before .before .pre .0) (a .p) (a .i) (head .ensures)) (lent (now (a .out)) (from .result) (a .n) (from .ensures) (found .ensures .0)), omega (arith, found .ensures .1))
+    let a = c .before .before .before .before .before .before .before .before .before .before .before .before .before .before .before .before .args in
+    let head = c .before .before .before .before .before .before .before .before .before .before .key-head in
+    let from = c .before .before .before .before .before .before .before .before .start-of in
+    let found = c .before .before .before .before .judge-key in
+    (added-as (key-judged (c .before .before .before .before .before .before .before .before .before .before .before .before .before .before .before .before .pre .0) (a .p) (a .i) (head .ensures)) (lent (now (a .out)) (from .result) (a .n) (from .ensures) (found .ensures .0)), omega (arith, found .ensures .1))
 
 pub judge-at-spec : {M : Type 1} → statement M
 judge-at-spec =
@@ -29,16 +29,17 @@ judge-at-spec =
     (tie.spec
     (λ c κs. search needs)
     returns
-    (λ c κs. (c .before .before .before .before .pre .1 .small, omega (arith, at-end (c .before .before .before .before .pre .1), c .before .before .before .before .pre .1 .inside)))
-    (λ c. omega (arith, key-ends _ _ (c .before .key-head .ensures), c .before .before .before .before .before .before .pre .1 .inside, c .before .before .before .before .before .before .pre .1 .small))
+    (λ c κs. (c .before .before .before .before .before .pre .1 .small, omega (arith, at-end (c .before .before .before .before .before .pre .1), c .before .before .before .before .before .pre .1 .inside)))
+    (λ c. omega (arith, key-ends _ _ (c .before .key-head .ensures), c .before .before .before .before .before .before .before .pre .1 .inside, c .before .before .before .before .before .before .before .pre .1 .small))
     (λ c κs. search needs)
     (λ c. search needs)
     (λ c. search needs)
-    (λ c. omega (arith, key-ends _ _ (c .before .before .key-head .ensures), c .before .before .before .before .before .before .before .pre .1 .inside))
+    (λ c. omega (arith, key-ends _ _ (c .before .before .key-head .ensures), c .before .before .before .before .before .before .before .before .pre .1 .inside))
     (λ c. search needs)
     (λ c. search needs)
     (λ c. search needs)
     (λ c κs. search needs)
+    (λ c. search needs)
     (λ c. search needs)
     (λ c. search needs)
     returns-2)

@@ -11,14 +11,14 @@ use Rattle.judge.proofs.judge_snapshots.Statement.{statement}
 use Rattle.judge.proofs.judge_snapshots.Tie as tie
 
 returns : tie.Need-returns
-returns c = (found-none (snapshots-none _ (lacks-snapshots _ (c .before .before .before .before .before .pre .2) (not-true _ (c .if1 .taken)))), omega arith)
+returns c = (found-none (snapshots-none _ (lacks-snapshots _ (c .before .before .before .before .before .before .pre .2) (not-true _ (c .if1 .taken)))), omega arith)
 
 returns-2 : tie.Need-returns-2
 unfolding snapshotRules
 returns-2 c =
-    let one = c .before .before .before .before .before .before .before .before .before .snapshot-states in
-    let two = c .before .before .snapshot-subvol-flags in
-    let from = c .before .before .before .before .start-of in
+    let one = c .before .before .before .before .before .before .before .before .before .before .before .before .before .before .snapshot-states in
+    let two = c .before .before .before .before .snapshot-subvol-flags in
+    let from = c .before .before .before .before .before .before .before .start-of in
     (more-lent (from .result) (one .result) (two .result) (from .ensures) (one .ensures .0) (two .ensures .0), omega (arith, one .ensures .1, two .ensures .1))
 
 pub judge-snapshots-spec : {M : Type 1} → statement M
@@ -32,7 +32,8 @@ judge-snapshots-spec =
     (λ c. search needs)
     (λ c. search needs)
     (λ c κs. search needs)
-    (λ c. omega (arith, c .before .before .before .before .before .before .before .before .before .snapshot-states .ensures .1, c .before .before .snapshot-subvol-flags .ensures .1, few-keys (c .before .before .before .before .before .before .before .before .before .before .before .before .before .before .before .before .before .pre .0)))
+    (λ c. omega (arith, c .before .before .before .before .before .before .before .before .before .before .before .before .before .before .snapshot-states .ensures .1, c .before .before .before .before .snapshot-subvol-flags .ensures .1, few-keys (c .before .before .before .before .before .before .before .before .before .before .before .before .before .before .before .before .before .before .before .before .before .before .before .before .pre .0)))
+    (λ c. search needs)
     (λ c. search needs)
     (λ c. search needs)
     returns-2)

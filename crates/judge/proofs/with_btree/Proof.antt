@@ -9,4 +9,5 @@ unfolding withBtree
 returns c = refl
 
 pub with-btree-spec : {M : Type 1} → statement M
-with-btree-spec = tie.close (tie.spec returns)
+with-btree-spec = tie.close (tie.spec
+    returns)

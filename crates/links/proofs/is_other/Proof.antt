@@ -14,4 +14,8 @@ unfolding isOther wordIn
 returns-2 c = rw (c .enum-told .given .1)
 
 pub is-other-spec : {M : Type 1} → statement M
-is-other-spec = tie.close (tie.spec (λ c. search needs) (λ c. search needs) returns returns-2)
+is-other-spec = tie.close (tie.spec
+    (λ c. search needs)
+    (λ c. search needs)
+    returns
+    returns-2)

@@ -11,4 +11,7 @@ unfolding idOf
 returns c = ap (λ (x : ℕ). x % 2 ^ 32) (c .key-offset .ensures)
 
 pub key-id-spec : {M : Type 1} → statement M
-key-id-spec = tie.close (tie.spec (λ c κs. search needs) (λ c. search needs) returns)
+key-id-spec = tie.close (tie.spec
+    (λ c κs. search needs)
+    (λ c. search needs)
+    returns)

@@ -13,4 +13,9 @@ unfolding sameRoot rootIn
 returns-2 c = rw (c .enum-told .given .1)
 
 pub same-root-spec : {M : Type 1} → statement M
-same-root-spec = tie.close (tie.spec (λ c. search needs) (λ c κs. search needs) (λ c. search needs) returns returns-2)
+same-root-spec = tie.close (tie.spec
+    (λ c. search needs)
+    (λ c κs. search needs)
+    (λ c. search needs)
+    returns
+    returns-2)

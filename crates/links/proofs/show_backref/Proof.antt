@@ -8,7 +8,7 @@ use Rattle.links.proofs.show_backref.Tie as tie
 
 returns : tie.Need-returns
 returns c = (
-  added-as (backref-is _ _ _ (c .before .before .before .before .before .key-word .ensures) (c .before .before .before .before .bad-backref .ensures)) (c .before .before .emit-if .ensures .0),
+  added-as (backref-is _ _ _ (c .before .before .before .before .before .before .before .before .key-word .ensures) (c .before .before .before .before .before .before .before .bad-backref .ensures)) (c .before .before .before .before .emit-if .ensures .0),
   omega arith,
 )
 
@@ -20,5 +20,6 @@ show-backref-spec =
     (λ c κs. search needs)
     (λ c. search needs)
     (λ c κs. search needs)
+    (λ c. search needs)
     (λ c. search needs)
     returns)

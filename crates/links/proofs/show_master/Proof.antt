@@ -8,14 +8,14 @@ use Rattle.links.proofs.show_master.Tie as tie
 
 returns : tie.Need-returns
 returns c = (
-  added-as (master-there _ _ _ _ (c .before .before .before .before .before .before .before .before .before .snapshot-of .ensures) (c .before .before .before .before .before .before .before .snap .given .1) (c .before .before .before .before .before .tree-of .ensures) (c .before .before .before .before .is-other .ensures)) (c .before .before .emit-if .ensures .0),
+  added-as (master-there _ _ _ _ (c .before .before .before .before .before .before .before .before .before .before .before .before .snapshot-of .ensures) (c .before .before .before .before .before .before .before .before .before .before .snap .given .1) (c .before .before .before .before .before .before .before .before .tree-of .ensures) (c .before .before .before .before .before .before .before .is-other .ensures)) (c .before .before .before .before .emit-if .ensures .0),
   omega arith,
 )
 
 returns-2 : tie.Need-returns-2
 returns-2 c = (
-  added-as (master-absent _ _ _ _ (c .before .before .before .before .before .before .snapshot-of .ensures) (c .before .before .before .before .enum-told .given .1)) (c .before .before .emit .ensures),
-  omega (arith, c .before .before .emit .ensures .count),
+  added-as (master-absent _ _ _ _ (c .before .before .before .before .before .before .before .before .before .snapshot-of .ensures) (c .before .before .before .before .before .before .before .enum-told .given .1)) (c .before .before .before .before .emit .ensures),
+  omega (arith, c .before .before .before .before .emit .ensures .count),
 )
 
 pub show-master-spec : {M : Type 1} → statement M
@@ -30,6 +30,8 @@ show-master-spec =
     (λ c. search needs)
     (λ c κs. search needs)
     (λ c. search needs)
+    (λ c. search needs)
     returns
+    (λ c. search needs)
     (λ c. search needs)
     returns-2)

@@ -8,8 +8,8 @@ use Rattle.links.proofs.show_root.Tie as tie
 
 returns : tie.Need-returns
 returns c = (
-  added-as (root-shown _ _ _ _ (c .before .before .before .before .before .before .before .before .before .before .before .before .key-word .ensures) (c .before .before .before .before .before .before .before .before .before .before .before .key-word2 .ensures) (c .before .before .before .before .before .before .before .before .before .before .tree-root .ensures) (c .before .before .before .before .before .before .before .before .before .same-root .ensures) (c .before .before .before .before .before .before .before .before .wrong-depth .ensures))
-      (added-more (c .before .before .before .before .before .before .emit-if .ensures .0) (c .before .before .emit-if2 .ensures .0)),
+  added-as (root-shown _ _ _ _ (c .before .before .before .before .before .before .before .before .before .before .before .before .before .before .before .before .before .before .key-word .ensures) (c .before .before .before .before .before .before .before .before .before .before .before .before .before .before .before .before .before .key-word2 .ensures) (c .before .before .before .before .before .before .before .before .before .before .before .before .before .before .before .before .tree-root .ensures) (c .before .before .before .before .before .before .before .before .before .before .before .before .before .before .before .same-root .ensures) (c .before .before .before .before .before .before .before .before .before .before .before .before .before .before .wrong-depth .ensures))
+      (added-more (c .before .before .before .before .before .before .before .before .before .before .before .emit-if .ensures .0) (c .before .before .before .before .emit-if2 .ensures .0)),
   omega arith,
 )
 
@@ -26,5 +26,6 @@ show-root-spec =
     (λ c κs. search needs)
     (λ c. search needs)
     (λ c κs. search needs)
+    (λ c. search needs)
     (λ c. search needs)
     returns)

@@ -13,4 +13,5 @@ show-skips-spec =
     (λ c κs. search needs)
     (λ c κs. search needs)
     (λ c. search needs)
-    (λ c. (added-as (skips-shown _ _ _ (c .before .before .before .before .count-skips .ensures)) (c .before .before .emit-if .ensures .0), omega arith)))
+    (λ c. search needs)
+    (λ c. (added-as (skips-shown _ _ _ (c .before .before .before .before .before .before .before .count-skips .ensures)) (c .before .before .before .before .emit-if .ensures .0), omega arith)))

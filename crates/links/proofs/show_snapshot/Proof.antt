@@ -11,22 +11,22 @@ use Rattle.links.proofs.show_snapshot.Tie as tie
 
 show-links-requires : tie.Need-show-links-requires
 show-links-requires c κs =
-    let t = c .before .before .before .before .before .before .before .before .before .before .before .before .before in
-    let next = c .before .before .line-beside .ensures in
-    let id = c .before .before .before .before .before .key-id .ensures in
-    ((t .pre .0 .0, t .pre .0 .1, at-least (t .pre .0 .1) 9 22 40 (c .before .before .before .before .before .before .if1 .taken), t .pre .0 .2), (next .0, next .1 .0 ∙ id))
+    let t = c .before .before .before .before .before .before .before .before .before .before .before .before .before .before .before in
+    let next = c .before .before .before .line-beside .ensures in
+    let id = c .before .before .before .before .before .before .key-id .ensures in
+    ((t .pre .0 .0, t .pre .0 .1, at-least (t .pre .0 .1) 9 22 40 (c .before .before .before .before .before .before .before .if1 .taken), t .pre .0 .2), (next .0, next .1 .0 ∙ id))
 
 returns : tie.Need-returns
 returns c =
-    let t = c .before .before .before .before .before .before .before .before .before .before .before .before .before .before .before .before in
-    let next = c .before .before .before .before .before .line-beside .ensures in (
-      added-only refl (at-holds (t .pre .0 .1) 9 22 40 (c .before .before .before .before .before .before .before .before .before .if1 .taken)) (c .before .before .show-links .ensures .0),
-      (c .before .before .show-links .ensures .1, (next .0, next .1 .1)),
+    let t = c .before .before .before .before .before .before .before .before .before .before .before .before .before .before .before .before .before .before .before .before in
+    let next = c .before .before .before .before .before .before .before .before .line-beside .ensures in (
+      added-only refl (at-holds (t .pre .0 .1) 9 22 40 (c .before .before .before .before .before .before .before .before .before .before .before .before .if1 .taken)) (c .before .before .before .before .show-links .ensures .0),
+      (c .before .before .before .before .show-links .ensures .1, (next .0, next .1 .1)),
     )
 
 returns-2 : tie.Need-returns-2
 returns-2 c =
-    let t = c .before .before .before .before .before .before .before in
+    let t = c .before .before .before .before .before .before .before .before in
     (added-not _ refl (at-holds (t .pre .0 .1) 9 22 40 (c .if1 .left)), (omega arith, t .pre .1))
 
 pub show-snapshot-spec : {M : Type 1} → statement M
@@ -35,8 +35,9 @@ show-snapshot-spec =
     (tie.spec
     (λ c κs. search needs)
     (λ c. search needs)
-    (λ c κs. let t = c .before .before .before .before .before .before .before .before .before .before in (parts (t .pre .0 .0 .opened) .parents-rise, t .pre .1 .0, t .pre .1 .1))
+    (λ c κs. let t = c .before .before .before .before .before .before .before .before .before .before .before in (parts (t .pre .0 .0 .opened) .parents-rise, t .pre .1 .0, t .pre .1 .1))
     show-links-requires
+    (λ c. search needs)
     (λ c. search needs)
     returns
     returns-2)

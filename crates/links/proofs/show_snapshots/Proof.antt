@@ -2,8 +2,8 @@
 use Prim.Native.Nat.{_+_, _*_, _≤_}
 use mathlib.Core.Path.{sym, ap}
 use native.Mathlib.Omega.{arith}
-use Rattle.findings.specs.Findings.{only, each}
-use Rattle.findings.proofs.Walk.{Begun, first, turn, last, each-none, begun-length}
+use Rattle.findings.specs.Findings.{only, each, sink}
+use Rattle.findings.proofs.Walk.{Begun, first, turn, last, each-none, begun-length, begun-counts}
 use Rattle.book.specs.Book.{wordsFrom, keysFrom, bookOf}
 use Rattle.book.specs.Walk.{KeysFit}
 use Rattle.book.proofs.Walk.{parts, step, no-keys}
@@ -18,35 +18,35 @@ use Rattle.links.proofs.show_snapshots.Statement.{statement}
 use Rattle.links.proofs.show_snapshots.Tie as tie
 
 abbrev Inv-loop : tie.InvT-loop
-Inv-loop book h at work n out₀ ids₀ line₀ found₀ left₀ p₀ out ids line found left p =
+Inv-loop book h at work n out₀ counts₀ ids₀ line₀ found₀ left₀ p₀ out counts ids line found left p =
     KeysFit book left p × (found + left * 6 ≤ left₀ * 6)
-    × Begun (each (λ _ k. only (holds 9 22 40 k) (linkFindings (bookOf book) k)) 0 (keysFrom book left₀ p₀)) out₀
-    (each (λ _ k. only (holds 9 22 40 k) (linkFindings (bookOf book) k)) 0 (keysFrom book left p)) found out
+    × Begun (each (λ _ k. only (holds 9 22 40 k) (linkFindings (bookOf book) k)) 0 (keysFrom book left₀ p₀)) (sink out₀ counts₀)
+    (each (λ _ k. only (holds 9 22 40 k) (linkFindings (bookOf book) k)) 0 (keysFrom book left p)) found (sink out counts)
     × Lined (wordsFrom book (h .parents) (at .parents)) ids line × (line .near ≤ h .parents)
 
 abbrev μ-loop : tie.MeasureT-loop
-μ-loop book h at work n out₀ ids₀ line₀ found₀ left₀ p₀ out ids line found left p = left
+μ-loop book h at work n out₀ counts₀ ids₀ line₀ found₀ left₀ p₀ out counts ids line found left p = left
 
 -- the key at hand, once its front is read
-key : (c : tie.After-key-front Inv-loop μ-loop) → AtKey (c .before .before .before .before .before .before .before .before .before .args .book .now) (c .before .before .loop .p) (c .key-front .result)
-key c = at-key (parts (c .before .before .before .before .before .before .before .before .before .pre .opened) .small) (c .before .loop-test .taken) (c .before .before .loop .inv .0) (c .key-front .ensures)
+key : (c : tie.After-key-front Inv-loop μ-loop) → AtKey (c .before .before .before .before .before .before .before .before .before .before .args .book .now) (c .before .before .loop .p) (c .key-front .result)
+key c = at-key (parts (c .before .before .before .before .before .before .before .before .before .before .pre .opened) .small) (c .before .loop-test .taken) (c .before .before .loop .inv .0) (c .key-front .ensures)
 
 show-snapshot-requires : tie.Need-show-snapshot-requires Inv-loop μ-loop
 show-snapshot-requires c κs =
-    let k = c .before .before in
-    let t = k .before .before .before .before .before .before .before .before .before in
+    let k = c .before .before .before in
+    let t = k .before .before .before .before .before .before .before .before .before .before in
     let l = k .before .before .loop in
     ((t .pre, key k, omega (arith, l .inv .1, t)), (l .inv .3, l .inv .4))
 
 loop-again : tie.Need-loop-again Inv-loop μ-loop
 loop-again c =
-    let k = c .before .before .before .before .before .before .before in
-    let t = k .before .before .before .before .before .before .before .before .before in
+    let k = c .before .before .before .before .before .before .before .before .before .before in
+    let t = k .before .before .before .before .before .before .before .before .before .before in
     let s = t .args .book .now in
     let l = k .before .before .loop in
     let some = k .before .loop-test .taken in
     let ends = at-end (key k) in
-    let shown = c .before .before .before .before .show-snapshot .ensures in (
+    let shown = c .before .before .before .before .before .before .show-snapshot .ensures in (
       rw ends (step s (l .left) (l .p) some (l .inv .0) .rest),
       omega (arith, l .inv .1, shown .1 .0, t, some),
       turn (l .inv .2) (shown .0) (key-next (λ k. only (holds 9 22 40 k) (linkFindings (bookOf s) k)) s (l .left) (l .p) some (l .inv .0) ends),
@@ -56,7 +56,7 @@ loop-again c =
 
 returns : tie.Need-returns Inv-loop μ-loop
 returns c =
-    let t = c .before .before .before .before .before .before .before .before in
+    let t = c .before .before .before .before .before .before .before .before .before in
     let s = t .args .book .now in
     let done = each-none (λ _ k. only (holds 9 22 40 k) (linkFindings (bookOf s) k)) 0 (no-keys s (c .before .loop .p) {n = c .before .loop .left} (omega arith)) in
     (found-as (ap (each (λ _ k. only (holds 9 22 40 k) (linkFindings (bookOf s) k)) 0) (sym (parts (t .pre .opened) .keys))) (last (c .before .loop .inv .2) done), omega arith)
@@ -68,14 +68,15 @@ show-snapshots-spec =
     Inv-loop
     μ-loop
     (λ c. search needs)
-    (λ c κs. (parts (c .before .before .before .before .before .pre .opened) .parents-rise, omega arith))
-    (λ c. (parts (c .before .before .before .before .before .before .pre .opened) .keys-fit, omega arith, first, c .line-of .ensures .0, c .line-of .ensures .1 .1))
-    (λ c κs. omega (arith, parts (c .before .before .before .before .before .before .before .before .pre .opened) .small, step _ _ _ (c .loop-test .taken) (c .before .loop .inv .0) .head))
+    (λ c κs. (parts (c .before .before .before .before .before .before .pre .opened) .parents-rise, omega arith))
+    (λ c. (parts (c .before .before .before .before .before .before .before .pre .opened) .keys-fit, omega arith, first, c .line-of .ensures .0, c .line-of .ensures .1 .1))
+    (λ c κs. omega (arith, parts (c .before .before .before .before .before .before .before .before .before .pre .opened) .small, step _ _ _ (c .loop-test .taken) (c .before .loop .inv .0) .head))
     show-snapshot-requires
-    (λ c. let k = key (c .before .before .before .before .before .before) in omega (arith, at-end k, k .inside, k .small))
-    (λ c. let k = key (c .before .before .before .before .before .before .before) in omega (arith, at-end k, k .inside, k .small))
+    (λ c. let k = key (c .before .before .before .before .before .before .before .before .before) in omega (arith, at-end k, k .inside, k .small))
+    (λ c. let k = key (c .before .before .before .before .before .before .before .before .before .before) in omega (arith, at-end k, k .inside, k .small))
     (λ c. search needs)
     (λ c. search needs)
     loop-again
     (λ c. begun-length (c .before .loop .inv .2))
+    (λ c. begun-counts (c .before .loop .inv .2))
     returns)

@@ -12,22 +12,22 @@ use Rattle.links.proofs.snapshot_links.Tie as tie
 
 show-all-requires : tie.Need-show-all-requires
 show-all-requires c κs =
-    let o = c .before .before .before .before .before .before .before .before .before .before .before .before .before .before .pre .0 in
+    let o = c .before .before .before .before .before .before .before .before .before .before .before .before .before .before .before .before .pre .0 in
     record {
       opened = o;
-      few = c .before .before .before .before .before .before .before .before .put-links .ensures .1;
+      few = c .before .before .before .before .before .before .before .before .before .put-links .ensures .1;
       room = omega arith;
-      pairs = record { small = parts o .small; fit = parts o .keys-fit; all = c .before .before .before .before .sort-pairs .ensures .0 ∙ ap sort (c .before .before .before .before .before .before .before .before .put-links .ensures .0) };
+      pairs = record { small = parts o .small; fit = parts o .keys-fit; all = c .before .before .before .before .before .sort-pairs .ensures .0 ∙ ap sort (c .before .before .before .before .before .before .before .before .before .put-links .ensures .0) };
     }
 
 returns : tie.Need-returns
 returns c =
-    let t = c .before .before .before .before .before .before .before .before .before .before .before .before .before .before .before .before .before in
-    (found-as (links-marked (bookOf (t .args .book .now)) (parts (t .pre .0) .header) (c .before .before .before .before .before .before .before .before .before .before .before .before .before .if1 .taken)) (c .before .before .show-all .ensures .0), omega arith)
+    let t = c .before .before .before .before .before .before .before .before .before .before .before .before .before .before .before .before .before .before .before .before .before in
+    (found-as (links-marked (bookOf (t .args .book .now)) (parts (t .pre .0) .header) (c .before .before .before .before .before .before .before .before .before .before .before .before .before .before .before .before .if1 .taken)) (c .before .before .before .before .show-all .ensures .0), omega arith)
 
 returns-2 : tie.Need-returns-2
 returns-2 c =
-    let t = c .before .before .before .before in
+    let t = c .before .before .before .before .before in
     (found-as (sym (links-unmarked (bookOf (t .args .book .now)) (parts (t .pre .0) .header) (c .if1 .left))) (none _), omega arith)
 
 pub snapshot-links-spec : {M : Type 1} → statement M
@@ -37,6 +37,7 @@ snapshot-links-spec =
     (λ c κs. search needs)
     (λ c κs. search needs)
     show-all-requires
+    (λ c. search needs)
     (λ c. search needs)
     (λ c. search needs)
     returns

@@ -14,4 +14,8 @@ unfolding wrongDepth rootIn
 returns-2 c = rw (c .enum-told .given .1)
 
 pub wrong-depth-spec : {M : Type 1} → statement M
-wrong-depth-spec = tie.close (tie.spec (λ c. search needs) (λ c. search needs) returns returns-2)
+wrong-depth-spec = tie.close (tie.spec
+    (λ c. search needs)
+    (λ c. search needs)
+    returns
+    returns-2)

@@ -12,15 +12,15 @@ use Rattle.snapshots.proofs.show_wrong.Tie as tie
 
 returns : tie.Need-returns
 returns c =
-    let start = c .before .before .before .before .before .before .before .before .before .before .before .before .before .before .before .before in
-    let wrong = wrong-parent (keyAt (start .args .book .now) (start .args .p)) _ (word-is _ (sym (c .before .before .before .before .before .before .before .find-parent .ensures) ∙ c .before .before .before .before .before .found .given .1)) (c .before .before .before .before .before .before .before .before .before .key-inode .ensures) (c .before .before .before .before .before .before .before .before .key-offset .ensures) in
-    (added-only (at-is (start .pre .1) 19 25) (c .before .before .before .before .before .before .before .before .before .before .if1 .taken) (added-as wrong (c .before .before .emit-if .ensures .0)), omega arith)
+    let start = c .before .before .before .before .before .before .before .before .before .before .before .before .before .before .before .before .before .before .before .before in
+    let wrong = wrong-parent (keyAt (start .args .book .now) (start .args .p)) _ (word-is _ (sym (c .before .before .before .before .before .before .before .before .before .before .find-parent .ensures) ∙ c .before .before .before .before .before .before .before .before .found .given .1)) (c .before .before .before .before .before .before .before .before .before .before .before .before .key-inode .ensures) (c .before .before .before .before .before .before .before .before .before .before .before .key-offset .ensures) in
+    (added-only (at-is (start .pre .1) 19 25) (c .before .before .before .before .before .before .before .before .before .before .before .before .before .if1 .taken) (added-as wrong (c .before .before .before .before .emit-if .ensures .0)), omega arith)
 
 returns-2 : tie.Need-returns-2
 returns-2 c =
-    let start = c .before .before .before .before .before .before .before .before .before .before .before .before .before .before .before in
-    let wrong = wrong-none (keyAt (start .args .book .now) (start .args .p)) _ (word-absent _ (sym (c .before .before .before .before .before .before .find-parent .ensures) ∙ c .before .before .before .before .enum-told .given .1)) (c .before .before .before .before .before .before .before .key-offset .ensures) in
-    (added-only (at-is (start .pre .1) 19 25) (c .before .before .before .before .before .before .before .before .before .if1 .taken) (added-as wrong (c .before .before .emit .ensures)), omega (arith, c .before .before .emit .ensures .count))
+    let start = c .before .before .before .before .before .before .before .before .before .before .before .before .before .before .before .before .before .before .before in
+    let wrong = wrong-none (keyAt (start .args .book .now) (start .args .p)) _ (word-absent _ (sym (c .before .before .before .before .before .before .before .before .before .find-parent .ensures) ∙ c .before .before .before .before .before .before .before .enum-told .given .1)) (c .before .before .before .before .before .before .before .before .before .before .key-offset .ensures) in
+    (added-only (at-is (start .pre .1) 19 25) (c .before .before .before .before .before .before .before .before .before .before .before .before .if1 .taken) (added-as wrong (c .before .before .before .before .emit .ensures)), omega (arith, c .before .before .before .before .emit .ensures .count))
 
 pub show-wrong-spec : {M : Type 1} → statement M
 show-wrong-spec =
@@ -34,9 +34,11 @@ show-wrong-spec =
     (λ c. search needs)
     (λ c κs. search needs)
     (λ c. search needs)
+    (λ c. search needs)
     returns
     (λ c. search needs)
     (λ c κs. search needs)
     (λ c. search needs)
+    (λ c. search needs)
     returns-2
-    (λ c. (added-not _ (at-is (c .before .before .before .before .before .before .pre .1) 19 25) (c .if1 .left), omega arith)))
+    (λ c. (added-not _ (at-is (c .before .before .before .before .before .before .before .pre .1) 19 25) (c .if1 .left), omega arith)))

@@ -9,11 +9,11 @@ use Rattle.snapshots.proofs.subvolume_children.Tie as tie
 
 show-children-requires : tie.Need-show-children-requires
 show-children-requires c κs =
-    let start = c .before .before .before .before .before .before .before .before .before .before .before .before .before in (
+    let start = c .before .before .before .before .before .before .before .before .before .before .before .before .before .before .before in (
       start .pre .0,
-      omega (arith, c .before .before .before .before .before .before .before .before .put-children .ensures .1, start .pre .1),
-      c .before .before .before .before .before .before .before .before .put-children .ensures .1,
-      record { small = parts (start .pre .0) .small; fit = parts (start .pre .0) .keys-fit; all = c .before .before .before .before .sort-pairs .ensures .0 ∙ ap sort (c .before .before .before .before .before .before .before .before .put-children .ensures .0) },
+      omega (arith, c .before .before .before .before .before .before .before .before .before .put-children .ensures .1, start .pre .1),
+      c .before .before .before .before .before .before .before .before .before .put-children .ensures .1,
+      record { small = parts (start .pre .0) .small; fit = parts (start .pre .0) .keys-fit; all = c .before .before .before .before .before .sort-pairs .ensures .0 ∙ ap sort (c .before .before .before .before .before .before .before .before .before .put-children .ensures .0) },
     )
 
 pub subvolume-children-spec : {M : Type 1} → statement M
@@ -23,6 +23,7 @@ subvolume-children-spec =
     (λ c κs. search needs)
     (λ c κs. search needs)
     show-children-requires
+    (λ c. search needs)
     (λ c. search needs)
     (λ c. search needs)
     (λ c. search needs))

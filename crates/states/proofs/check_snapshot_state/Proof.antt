@@ -11,8 +11,8 @@ returns : tie.Need-returns
 unfolding snapStates
 returns c = (
   added-as
-      (snapshot-findings _ _ _ (c .before .before .before .before .before .before .before .before .before .before .before .word-or-zero .ensures) (c .before .before .before .before .before .before .before .before .before .state-distance .ensures) (c .before .before .before .before .before .before .before .before .state-required .ensures))
-      (added-more (c .before .before .before .before .before .before .emit-if .ensures .0) (c .before .before .emit-if2 .ensures .0)),
+      (snapshot-findings _ _ _ (c .before .before .before .before .before .before .before .before .before .before .before .before .before .before .before .before .before .word-or-zero .ensures) (c .before .before .before .before .before .before .before .before .before .before .before .before .before .before .before .state-distance .ensures) (c .before .before .before .before .before .before .before .before .before .before .before .before .before .before .state-required .ensures))
+      (added-more (c .before .before .before .before .before .before .before .before .before .before .before .emit-if .ensures .0) (c .before .before .before .before .emit-if2 .ensures .0)),
   omega arith,
 )
 
@@ -26,5 +26,6 @@ check-snapshot-state-spec =
     (λ c κs. search rule)
     (λ c κs. search rule)
     (λ c κs. search rule)
+    (λ c. search rule)
     (λ c. search rule)
     returns)

@@ -11,19 +11,19 @@ use Rattle.states.proofs.check_state_words.Tie as tie
 returns : tie.Need-returns
 unfolding is
 returns c =
-    let a = c .before .before .before .before .before .before .before .before .before .args in
-    (begin (added-as (of-snapshot _ _ (bkey (a .h) (a .value .now)) (c .before .before .before .before .if1 .taken)) (c .before .before .check-snapshot-state .ensures .0)), omega arith)
+    let a = c .before .before .before .before .before .before .before .before .before .before .before .before .before .args in
+    (begin (added-as (of-snapshot _ _ (bkey (a .h) (a .value .now)) (c .before .before .before .before .before .before .before .if1 .taken)) (c .before .before .before .before .check-snapshot-state .ensures .0)), omega arith)
 
 returns-2 : tie.Need-returns-2
 unfolding is
 returns-2 c =
-    let a = c .before .before .before .before .before .before .before .before .before .before .before .before .args in
-    (begin (added-as (of-subvolume _ _ (bkey (a .h) (a .value .now)) (c .before .before .before .before .before .before .before .if1 .left) (c .before .before .before .before .if2 .taken)) (c .before .before .check-subvolume .ensures .0)), omega arith)
+    let a = c .before .before .before .before .before .before .before .before .before .before .before .before .before .before .before .before .args in
+    (begin (added-as (of-subvolume _ _ (bkey (a .h) (a .value .now)) (c .before .before .before .before .before .before .before .before .before .before .if1 .left) (c .before .before .before .before .before .before .before .if2 .taken)) (c .before .before .before .before .check-subvolume .ensures .0)), omega arith)
 
 returns-3 : tie.Need-returns-3
 unfolding is
 returns-3 c =
-    let a = c .before .before .before .before .before .before .before .before .args in
+    let a = c .before .before .before .before .before .before .before .before .before .args in
     (begin (added-nil (sym (of-neither _ _ (bkey (a .h) (a .value .now)) (c .before .before .before .if1 .left) (c .if2 .left)))), omega arith)
 
 pub check-state-words-spec : {M : Type 1} → statement M
@@ -32,8 +32,10 @@ check-state-words-spec =
     (tie.spec
     (λ c κs. search rule)
     (λ c. search rule)
+    (λ c. search rule)
     returns
     (λ c κs. search rule)
+    (λ c. search rule)
     (λ c. search rule)
     returns-2
     returns-3)

@@ -8,8 +8,8 @@ use Rattle.states.proofs.check_subvolume.Tie as tie
 
 returns : tie.Need-returns
 returns c = (
-  added-as (subvolume-findings _ _ _ (c .before .before .before .before .before .before .before .before .before .word-or-zero .ensures) (c .before .before .before .before .word-or-zero2 .ensures))
-      (added-more (c .before .before .before .before .before .before .before .before .before .before .before .before .check-subvolume-state .ensures .0) (added-more (c .before .before .before .before .before .before .before .check-subvolume-word .ensures .0) (c .before .before .emit-if .ensures .0))),
+  added-as (subvolume-findings _ _ _ (c .before .before .before .before .before .before .before .before .before .before .before .before .before .before .before .word-or-zero .ensures) (c .before .before .before .before .before .before .before .word-or-zero2 .ensures))
+      (added-more (c .before .before .before .before .before .before .before .before .before .before .before .before .before .before .before .before .before .before .before .before .check-subvolume-state .ensures .0) (added-more (c .before .before .before .before .before .before .before .before .before .before .before .before .check-subvolume-word .ensures .0) (c .before .before .before .before .emit-if .ensures .0))),
   omega arith,
 )
 
@@ -22,5 +22,6 @@ check-subvolume-spec =
     (λ c κs. search rule)
     (λ c κs. search rule)
     (λ c κs. search rule)
+    (λ c. search rule)
     (λ c. search rule)
     returns)

@@ -15,11 +15,11 @@ use Rattle.subvolumes.proofs.snapshot_claims.Tie as tie
 returns : tie.Need-returns
 unfolding snapshotClaims
 returns c =
-    let a = c .before .before .before .before .before .before .before .before .before .before .before .before .before .before .before .before .args in
+    let a = c .before .before .before .before .before .before .before .before .before .before .before .before .before .before .before .before .before .before .before .before .args in
     let s = a .book .now in
-    let sorted = c .before .before .before .before .before .before .before .sort-pairs .ensures .0 ∙ ap sort (c .before .before .before .before .before .before .before .before .before .before .before .put-claims .ensures .0 ∙ claims-paired s (a .h .keys) (a .at .keys)) in
+    let sorted = c .before .before .before .before .before .before .before .before .before .before .sort-pairs .ensures .0 ∙ ap sort (c .before .before .before .before .before .before .before .before .before .before .before .before .before .before .put-claims .ensures .0 ∙ claims-paired s (a .h .keys) (a .at .keys)) in
     let e = sorted-findings (claimed (keysFrom s (a .h .keys) (a .at .keys))) _ _ sorted in
-    (rw (parts (c .before .before .before .before .before .before .before .before .before .before .before .before .before .before .before .before .pre .0) .keys, ← e) (c .before .before .show-claims .ensures .0), omega arith)
+    (rw (parts (c .before .before .before .before .before .before .before .before .before .before .before .before .before .before .before .before .before .before .before .before .pre .0) .keys, ← e) (c .before .before .before .before .show-claims .ensures .0), omega arith)
 
 pub snapshot-claims-spec : {M : Type 1} → statement M
 snapshot-claims-spec =
@@ -27,7 +27,8 @@ snapshot-claims-spec =
     (tie.spec
     (λ c κs. search needs)
     (λ c κs. search needs)
-    (λ c κs. (omega arith, omega (arith, c .before .before .before .before .before .before .before .before .before .before .before .before .before), sorted-by _ _ (c .before .before .before .before .sort-pairs .ensures .0)))
+    (λ c κs. (omega arith, omega (arith, c .before .before .before .before .before .before .before .before .before .before .before .before .before .before .before), sorted-by _ _ (c .before .before .before .before .before .sort-pairs .ensures .0)))
+    (λ c. search needs)
     (λ c. search needs)
     (λ c. search needs)
     returns)

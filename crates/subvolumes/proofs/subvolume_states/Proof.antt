@@ -9,10 +9,10 @@ use Rattle.subvolumes.proofs.subvolume_states.Statement.{statement}
 use Rattle.subvolumes.proofs.subvolume_states.Tie as tie
 
 returns : tie.Need-returns
-returns c = (rw (← c .before .before .before .before .before .before .before .sort-states .ensures .0) (c .before .before .show-subvolumes .ensures .0), omega arith)
+returns c = (rw (← c .before .before .before .before .before .before .before .before .before .before .sort-states .ensures .0) (c .before .before .before .before .show-subvolumes .ensures .0), omega arith)
 
 returns-2 : tie.Need-returns-2
-returns-2 c = (found-as (sym (states-none (bookOf (c .before .before .before .before .before .args .book .now)) (sym (c .before .has-gone .ensures) ∙ c .if1 .left))) (none _), omega arith)
+returns-2 c = (found-as (sym (states-none (bookOf (c .before .before .before .before .before .before .args .book .now)) (sym (c .before .has-gone .ensures) ∙ c .if1 .left))) (none _), omega arith)
 
 pub subvolume-states-spec : {M : Type 1} → statement M
 subvolume-states-spec =
@@ -21,6 +21,7 @@ subvolume-states-spec =
     (λ c κs. search needs)
     (λ c κs. search needs)
     (λ c κs. search needs)
+    (λ c. search needs)
     (λ c. search needs)
     (λ c. search needs)
     returns
