@@ -3,7 +3,11 @@
  * kind's name, subject and object, or says why the book is refused. With --explain a sentence follows each finding that says what it means;
  * keys are numbered from 0 there.
  *
- * Exit status: 0 accepted and without findings, 1 findings, 2 refused or not read.
+ * Exit status: 0 accepted, nothing found and the chains of snapshots judged, 1 findings, 2 refused or not read,
+ * 3 accepted and nothing found, but the chains were not judged: the trees mark is clear.
+ *
+ * Only 0 may lead to a merge, and only for a forest book, of which it is proved that an empty list says that the chains
+ * are sound (README.md, "What an empty list means"). The mark is one premise of that; this program looks at no other.
  */
 #include "dockwrench.h"
 
@@ -125,7 +129,8 @@ static void explain(const uint8_t *finding) {
     putchar('\n');
 }
 
-static int tell(uint64_t answer, const uint8_t *findings, int explained) {
+/* Writes an answer, for a book whose trees mark is set or clear, and returns the exit status. */
+static int tell(uint64_t answer, const uint8_t *findings, int trees, int explained) {
     uint32_t count = dockwrench_count(answer);
     if (dockwrench_number(answer) != 0) {
         printf("refused at byte %" PRIu32 ": %s\n", dockwrench_place(answer), refusals[dockwrench_number(answer)]);
@@ -138,7 +143,9 @@ static int tell(uint64_t answer, const uint8_t *findings, int explained) {
         if (explained)
             explain(at);
     }
-    return count != 0;
+    if (!trees)
+        puts("the chains of snapshots were not judged: the trees mark is clear");
+    return count ? 1 : trees ? 0 : 3;
 }
 
 /* The file's bytes; of a file longer than any book, a byte more than a book may have. */
@@ -165,7 +172,7 @@ int main(int argc, char **argv) {
     uint8_t *findings = NULL;
     size_t bytes = take(argv[argc - 1], book);
     uint64_t answer = check(book, bytes, &findings);
-    int status = tell(answer, findings, explained);
+    int status = tell(answer, findings, dockwrench_trees(book, bytes), explained);
     free(findings);
     free(book);
     return status;

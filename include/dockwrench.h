@@ -1,9 +1,15 @@
 /*
  * dockwrench.h: findings over a packed book of bcachefs keys. Link with libdockwrench.a.
  *
- * The functions are pure in their arguments: no allocation, no globals, no I/O, no state kept between calls, so any number of threads may
- * call them at once. The caller owes only this: each pointer is not null and good for its length (a length of 0 too), `work` is aligned to
- * 8 bytes, and of one call's areas `findings` and `work` overlap nothing else. Any bytes may be a book: all are answered, none is undefined.
+ * The functions are pure in their arguments: no allocation, no globals, no I/O, no state kept between calls, so any
+ * number of threads may call them at once. The caller owes only this: each pointer is good for its length, `work` is
+ * aligned to 8 bytes, and of one call's areas `findings` and `work` overlap nothing else. Where a length is 0 its
+ * pointer may be null: nothing is read or written through it then. Any bytes may be a book: all are answered, none is
+ * undefined.
+ *
+ * The archive is for x86-64 alone (ELF, the System V calling convention, no registers beyond those of SSE2). It needs
+ * three C functions of its environment, memcpy, memmove and memset, and nothing else. A call takes at most
+ * DOCKWRENCH_STACK bytes of stack: measured, not proved (tests/stack.c).
  */
 #ifndef DOCKWRENCH_H
 #define DOCKWRENCH_H
@@ -18,6 +24,7 @@ extern "C" {
 #define DOCKWRENCH_BOOK_MAX 1048576     /* bytes of a book at most */
 #define DOCKWRENCH_FINDING_BYTES 17     /* a finding: kind 1 byte, subject 8, object 8, most significant first */
 #define DOCKWRENCH_WORDS_PER_KEY 2      /* work words for each key of the book */
+#define DOCKWRENCH_STACK 24576          /* bytes of stack that a call takes at most: measured, and rounded up */
 
 /*
  * Judges a book. The number of the answer is
@@ -25,9 +32,11 @@ extern "C" {
  *    0   all findings are in the buffer; count() is how many
  *   10   the buffer is too short for all of them; count() is how many there are in full
  *
- * and both times the buffer holds the whole findings that fit, from the first, its other bytes are as they were, and every word of the
- * work area is zero, however many were lent. An answer 0 with count 0 says that no rule found anything; the links between snapshots are judged
- * only where the book's trees mark is set. Otherwise it is a refusal
+ * and both times the buffer holds the whole findings that fit, from the first, its other bytes are as they were, and
+ * every word of the work area is zero, however many were lent. An answer 0 with count 0 says that no rule found
+ * anything. The links between snapshots are judged only where the book's trees mark is set (dockwrench_trees), and that
+ * nothing is found there says that the snapshots are sound only in a forest book (README.md, "What an empty list
+ * means"). Otherwise it is a refusal
  *
  *    1   over 1,048,576 bytes                              place 0
  *    2   under 32 bytes                                    place 0
@@ -39,7 +48,8 @@ extern "C" {
  *    8   bytes after the last key                          the first of them
  *    9   work area short: under two words a key            place 0
  *
- * with count() 0, and both areas are untouched. The first that applies is given: 1, 2, 3, then entries from front to back, then 8, 9.
+ * with count() 0, and both areas are untouched. The first that applies is given: 1, 2, 3; then entries and keys from
+ * front to back, at each 4, 5, 6, 7 before the next is looked at; then 8, 9.
  */
 uint64_t dockwrench_check(const uint8_t *book, size_t bytes, uint8_t *findings, size_t room, uint64_t *work, size_t words);
 
@@ -66,6 +76,9 @@ static inline int dockwrench_yes(uint64_t answer) { return (uint32_t)answer == 1
 static inline size_t dockwrench_words(const uint8_t *book, size_t bytes) {
     return bytes < 32 ? 0 : DOCKWRENCH_WORDS_PER_KEY * ((size_t)book[6] << 8 | book[7]);
 }
+
+/* Whether the trees mark is set: the chains of snapshots are judged only then. 0 for bytes too few for a header. */
+static inline int dockwrench_trees(const uint8_t *book, size_t bytes) { return bytes < 32 ? 0 : book[0] >> 3 & 1; }
 
 /* A finding taken apart, from its first byte. */
 static inline uint64_t dockwrench_word(const uint8_t *at) {

@@ -1,7 +1,8 @@
 /*
- * The C boundary: holds the three entries to what include/dockwrench.h promises of slices that are empty, at odd addresses, too short by one or
- * longer than needed. Every byte and word lent is looked at, and some before and behind them. Each group writes a line with its number of
- * calls; the first promise that is not kept is written and ends the run with status 1.
+ * The C boundary: holds the three entries to what include/dockwrench.h promises of slices that are empty, null, at odd
+ * addresses, too short by one or longer than needed. Every byte and word lent is looked at, and some before and behind
+ * them. Each group writes a line with its number of calls; the first promise that is not kept is written and ends the
+ * run with status 1.
  */
 #include "dockwrench.h"
 
@@ -14,6 +15,7 @@
 #define LONGEST 256
 
 static unsigned long calls;
+static int by_null; /* what has no bytes or words is lent as a null pointer */
 
 #define HOLD(claim) \
     do { \
@@ -104,6 +106,16 @@ static struct book tables(void) {
     return book;
 }
 
+/* A book without keys that has a finding: bucket 3 has a generation that no key records. */
+static struct book generation(void) {
+    struct book book;
+    header(&book, 0x1000, 0, 0, 0x00010);
+    be(&book, 8, 3);
+    be(&book, 1, 7);
+    finding(&book, 46, 3, 7);
+    return book;
+}
+
 /* Books for the refusals 3 to 8. */
 static struct book refused(unsigned number) {
     struct book book;
@@ -145,6 +157,9 @@ static uint8_t *lend(const struct book *book, size_t shift) {
     return at;
 }
 
+/* What is lent of an area: null in place of its address where that is to be tried. */
+static void *or_null(void *at, size_t length) { return by_null && length == 0 ? NULL : at; }
+
 /* What the main call promises of its answer: number, place and count. */
 static unsigned answered(const struct book *book, size_t room, size_t words, uint64_t answer) {
     unsigned number = book->number                                              ? book->number
@@ -161,9 +176,10 @@ static unsigned answered(const struct book *book, size_t room, size_t words, uin
 static void call(const struct book *book, size_t shift, size_t room, size_t words, uint8_t fill) {
     uint8_t *lent = lend(book, shift), *buffer = area(shift + room + GUARD), *findings = buffer + shift;
     uint64_t *work = area((words + GUARD) * sizeof *work);
+    const uint8_t *from = or_null(lent + shift, book->length);
     memset(buffer, fill, shift + room + GUARD);
     memset(work, fill, (words + GUARD) * sizeof *work);
-    uint64_t answer = dockwrench_check(lent + shift, book->length, findings, room, work, words);
+    uint64_t answer = dockwrench_check(from, book->length, or_null(findings, room), room, or_null(work, words), words);
     int judged = answered(book, room, words, answer) % 10 == 0;
     size_t whole = room / DOCKWRENCH_FINDING_BYTES < book->count ? room / DOCKWRENCH_FINDING_BYTES : book->count;
     size_t used = judged ? whole * DOCKWRENCH_FINDING_BYTES : 0;
@@ -173,7 +189,7 @@ static void call(const struct book *book, size_t shift, size_t room, size_t word
     HOLD(all((uint8_t *)work, words * sizeof *work, judged ? 0 : fill));
     HOLD(all((uint8_t *)(work + words), GUARD * sizeof *work, fill));
     HOLD(memcmp(lent + shift, book->bytes, book->length) == 0);
-    HOLD(dockwrench_check(lent + shift, book->length, findings, room, work, words) == answer);
+    HOLD(dockwrench_check(from, book->length, or_null(findings, room), room, or_null(work, words), words) == answer);
     calls += 2;
     free(lent);
     free(buffer);
@@ -189,7 +205,9 @@ static void check(const struct book *book, size_t shift, size_t room, size_t wor
 /* Both questions: `root` above `id` after `links` links, or number 11 for links over 1,024; and whether `id` is unavailable. */
 static void ask(const struct book *book, size_t shift, uint32_t id, uint32_t root, uint32_t links, int yes) {
     uint8_t *lent = lend(book, shift);
-    uint64_t above = dockwrench_ancestor(lent + shift, book->length, id), state = dockwrench_unavailable(lent + shift, book->length, id);
+    const uint8_t *from = or_null(lent + shift, book->length);
+    uint64_t above = dockwrench_ancestor(from, book->length, id);
+    uint64_t state = dockwrench_unavailable(from, book->length, id);
     int none = book->number != 0 || links > 1024;
     HOLD(dockwrench_number(above) == (book->number ? book->number : links > 1024 ? 11 : 0));
     HOLD(dockwrench_root(above) == (none ? 0 : root));
@@ -244,6 +262,24 @@ static void lengths(void) {
     for (book.length = 32; book.length < 60; book.length++)
         entries(&book, 0);
     done("the listing's book cut to 32 to 59 bytes");
+}
+
+/* Null for what is empty: the book, and either area or both, over books that are judged and that are refused. */
+static void nulls(void) {
+    struct book books[] = {empty(), listing(), tables(), generation(), refused(3), refused(4), refused(8), empty()};
+    struct book *none = &books[sizeof books / sizeof *books - 1];
+    none->length = 0;
+    none->number = 2;
+    by_null = 1;
+    for (struct book *book = books; book <= none; book++) {
+        check(book, 0, 0, 0);
+        check(book, 0, 0, 2);
+        check(book, 0, sizeof book->findings, 0);
+        entries(book, 0);
+    }
+    HOLD(dockwrench_words(NULL, 0) == 0 && dockwrench_trees(NULL, 0) == 0);
+    by_null = 0;
+    done("null for what is empty");
 }
 
 static void longest(void) {
@@ -307,6 +343,35 @@ static void refusals(void) {
     done("refusals 3 to 8");
 }
 
+static void gives(struct book book, unsigned number, uint32_t place) {
+    book.number = number;
+    book.place = place;
+    entries(&book, 0);
+}
+
+/* Several refusals in one book: the first entry's is given, and of one entry the first of 4, 5, 6, 7. */
+static void orders(void) {
+    struct book book;
+    header(&book, 0x1000, 0, 0, 0x10000);
+    key(&book, 15, 0, 1, 0);
+    book.bytes[35] |= 1;
+    gives(book, 4, 32); /* a value past the end, a spare bit and btree 15 */
+    book.bytes[35] = 1;
+    gives(book, 5, 32); /* a spare bit and btree 15 */
+    header(&book, 0x1000, 0, 0, 0x10002);
+    be(&book, 8, 9);
+    be(&book, 2, 0x8100);
+    be(&book, 8, 9);
+    be(&book, 2, 0x8101);
+    key(&book, 15, 0, 0, 0);
+    gives(book, 5, 42); /* a spare bit and a bucket that does not rise; then btree 15 */
+    book.bytes[51] = 0;
+    gives(book, 6, 42); /* the bucket; then btree 15 */
+    book.bytes[49] = 10;
+    gives(book, 7, 52);
+    done("the first of several refusals");
+}
+
 /* Any bytes are answered: each bit of two books is flipped in turn; a refusal leaves both areas as they were, and is the questions' too. */
 static void flips(void) {
     struct book books[] = {listing(), tables()};
@@ -335,7 +400,7 @@ static void flips(void) {
 /* The functions of the header that take numbers apart. */
 static void parts(void) {
     static const uint8_t finding[] = {50, 1, 2, 3, 4, 5, 6, 7, 8, 255, 254, 253, 252, 251, 250, 249, 248};
-    uint8_t most[32] = {[6] = 255, [7] = 255};
+    uint8_t most[32] = {[6] = 255, [7] = 255}, marked[32] = {8}, unmarked[32] = {255 - 8};
     uint64_t answer = 0x0b123456fedcba98;
     _Static_assert(DOCKWRENCH_BOOK_MAX == 1048576 && DOCKWRENCH_FINDING_BYTES == sizeof finding && DOCKWRENCH_WORDS_PER_KEY == 2, "sizes");
     HOLD(dockwrench_number(answer) == 11);
@@ -343,6 +408,7 @@ static void parts(void) {
     HOLD(dockwrench_count(answer) == 0xfedcba98 && dockwrench_root(answer) == 0xfedcba98);
     HOLD(!dockwrench_yes(answer) && !dockwrench_yes(0) && dockwrench_yes(1) && !dockwrench_yes((uint64_t)1 << 32));
     HOLD(dockwrench_words(most, 32) == 131070 && dockwrench_words(most, 31) == 0);
+    HOLD(dockwrench_trees(marked, 32) == 1 && dockwrench_trees(unmarked, 32) == 0 && dockwrench_trees(marked, 31) == 0);
     HOLD(dockwrench_kind(finding) == 50);
     HOLD(dockwrench_subject(finding) == 0x0102030405060708 && dockwrench_object(finding) == 0xfffefdfcfbfaf9f8);
     done("numbers taken apart");
@@ -350,11 +416,13 @@ static void parts(void) {
 
 int main(void) {
     lengths();
+    nulls();
     longest();
     addresses();
     work_areas();
     findings_buffers();
     refusals();
+    orders();
     flips();
     parts();
     return 0;

@@ -1,12 +1,15 @@
 #!/usr/bin/env bash
-# Writes what tools/book says of wrong input, with its exit status: the texts of tests/text.txt, each ended by a line ---, then texts that are too long,
-# then bytes that are not a whole book, then files that are not there.
+# Writes what tools/book, or another build of tools/book.c, says of wrong input, with its exit status: the texts of
+# tests/text.txt, each ended by a line ---, then texts that are too long, texts with bytes that are not printable, bytes
+# that are not a whole book, and files that are not there.
+# usage: tests/text.sh [PROGRAM]
 cd "$(dirname "$0")/.." || exit 1
+book=${1:-tools/book}
 
 # say COMMAND ..: the tool over standard input
 say() {
     local said status
-    said=$(tools/book "$@" 2>&1)
+    said=$("$book" "$@" 2>&1)
     status=$?
     echo "$said; status $status"
 }
@@ -27,14 +30,25 @@ wrong_texts() {
 # long_texts: a line, a byte or a word more than fits; before each of the first two, the longest that fits
 long_texts() {
     local key='key btree=0 type=0 offset=0'
-    { echo book && seq 65535 | sed 's/.*/parent id=&/'; } | tools/book pack | wc -c
+    { echo book && seq 65535 | sed 's/.*/parent id=&/'; } | "$book" pack | wc -c
     { echo book && seq 65536 | sed 's/.*/parent id=&/'; } | say pack
-    { echo book && yes "$key" | head -n 37448; } | tools/book pack | wc -c
+    { echo book && yes "$key" | head -n 37448; } | "$book" pack | wc -c
     { echo book && yes "$key" | head -n 37449; } | say pack
-    { echo book && echo "$key words=0$(printf ',0%.0s' {1..510}) value=000000"; } | tools/book pack | wc -c
+    { echo book && echo "$key words=0$(printf ',0%.0s' {1..510}) value=000000"; } | "$book" pack | wc -c
     { echo book && echo "$key value=00 words=0$(printf ',0%.0s' {1..511})"; } | say pack
     printf 'book\nparent \000id=1\n' | say pack
     printf '' | say pack
+}
+
+# strange_texts: bytes that are not printable are shown in hexadecimal, also in names of files, and long words are cut
+strange_texts() {
+    printf 'book\nkey\033[2J id=1\n' | say pack
+    printf 'book\nparent id=1\007 parent=2\n' | say pack
+    printf 'book\nparent \377\\n\177=1\n' | say pack
+    printf 'book\nkey btree=0 type=0 offset=0 value=\033]\n' | say pack
+    { printf 'book\n' && printf 'x%.0s' {1..60}; } | say pack
+    { printf 'book\n' && printf '\001%.0s' {1..61}; } | say pack
+    say pack "$(printf 'no\033[2Jthing')"
 }
 
 # header COUNT_AT: a header whose count at that byte is 1
@@ -54,11 +68,14 @@ wrong_books() {
     head -c 1048577 /dev/zero | say text
     echo 00zz | say roundtrip
     echo 000 | say roundtrip
-    tools/book text tests 2>&1 || echo "status $?"
-    tools/book text target/tests/nothing 2>&1 || echo "status $?"
-    tools/book 2>&1 || echo "status $?"
+    printf '00\000\n' | say roundtrip
+    say text tests
+    say text target/tests/nothing
+    say text <tests
+    say
 }
 
 wrong_texts
 long_texts
+strange_texts
 wrong_books

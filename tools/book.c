@@ -6,9 +6,11 @@
  *   book roundtrip LINES   each line is a book in hexadecimal: writes how many are whole books, and how many of these pack to the same bytes
  *                          again from their text
  *
- * Without a file, or for -, standard input is read. Exit status: 0; 1 where a book does not come back the same; 2 for what is wrong in the
- * input, with a message. What the checker judges or refuses is not looked at here: only what cannot be packed is an error.
+ * Without a file, or for -, standard input is read. Exit status: 0; 1 where a book does not come back the same; 2, with
+ * a message, for what is wrong in the input or cannot be read or written. What the checker judges or refuses is not
+ * looked at here: only what cannot be packed is an error.
  */
+#include <errno.h>
 #include <inttypes.h>
 #include <stdarg.h>
 #include <stdint.h>
@@ -19,6 +21,7 @@
 #define BOOK_MAX 1048576
 #define VALUE_MAX 2047
 #define LINES_MAX 65535
+#define SHOWN_MAX 60 /* bytes of the input in a message */
 
 /* ---- the layout */
 
@@ -109,7 +112,7 @@ struct part { /* of the text */
     const char *at;
     size_t length;
 };
-#define SHOWN(part) (int)(part).length, (part).at
+#define SHOWN(part) escaped((part).at, (part).length)
 
 static const char *file;       /* the input's name */
 static size_t line;            /* the line that is read, from 1 */
@@ -126,10 +129,36 @@ static struct entry { /* the line, as far as it is read */
 static uint8_t packed[KINDS][BOOK_MAX]; /* the lines of each kind so far */
 static size_t bytes_of[KINDS], lines_of[KINDS];
 
+/* A byte as messages show it: printable ASCII but the backslash as it is, others in hexadecimal, so that a terminal
+   takes none as a command. */
+static size_t escape(char *to, char byte) {
+    if (byte >= ' ' && byte <= '~' && byte != '\\')
+        return *to = byte, 1;
+    return (size_t)sprintf(to, "\\x%02x", (unsigned)(unsigned char)byte);
+}
+
+/* A part of the input as messages show it, which is cut where it is long. */
+static const char *escaped(const char *at, size_t length) {
+    static char to[4 * SHOWN_MAX + sizeof "..."];
+    size_t end = 0;
+    for (size_t i = 0; i < length && i < SHOWN_MAX; i++)
+        end += escape(to + end, at[i]);
+    strcpy(to + end, length > SHOWN_MAX ? "..." : "");
+    return to;
+}
+
+/* Starts a message with the input's name. */
+static void name_file(void) {
+    char one[5];
+    for (const char *at = file; *at; at++)
+        fwrite(one, 1, escape(one, *at), stderr);
+}
+
 static _Noreturn void wrong(const char *format, ...) {
     va_list list;
     va_start(list, format);
-    fprintf(stderr, "%s:%zu:%zu: ", file, line, (size_t)(here.at - line_start) + 1);
+    name_file();
+    fprintf(stderr, ":%zu:%zu: ", line, (size_t)(here.at - line_start) + 1);
     vfprintf(stderr, format, list);
     fputc('\n', stderr);
     exit(2);
@@ -158,9 +187,9 @@ static uint64_t number(struct part part, const struct field *field) {
         value = value * base + d;
     }
     if (none)
-        wrong("'%.*s' is no %s", SHOWN(part), field->names ? "name or number" : "number");
+        wrong("'%s' is no %s", SHOWN(part), field->names ? "name or number" : "number");
     if (wide)
-        wrong("%.*s is too wide for %s, whose width in bits is %u", SHOWN(part), field->name, field->bits);
+        wrong("%s is too wide for %s, whose width in bits is %u", SHOWN(part), field->name, field->bits);
     return value;
 }
 
@@ -187,7 +216,7 @@ static void read_bytes(struct part part) {
     for (size_t i = 0; i < part.length; i += 2) {
         unsigned high = digit(part.at[i]), low = i + 1 < part.length ? digit(part.at[i + 1]) : 16;
         if (high > 15 || low > 15)
-            wrong("'%.*s' is no byte in hexadecimal", i + 1 < part.length ? 2 : 1, part.at + i);
+            wrong("'%s' is no byte in hexadecimal", escaped(part.at + i, i + 1 < part.length ? 2 : 1));
         append(1, high << 4 | low);
     }
 }
@@ -202,15 +231,15 @@ static void read_field(void) {
     while (i < kind->count && (kind->fields[i].rule == MADE || !is(name, kind->fields[i].name)))
         i++;
     if (i == kind->count)
-        wrong("a line of '%s' has no field '%.*s'", kind->name, SHOWN(name));
+        wrong("a line of '%s' has no field '%s'", kind->name, SHOWN(name));
     if (entry.given >> i & 1)
-        wrong("'%.*s' is given twice", SHOWN(name));
+        wrong("'%s' is given twice", SHOWN(name));
     entry.given |= 1u << i;
     enum rule rule = kind->fields[i].rule;
     if (rule == MARK && name.length < here.length)
-        wrong("'%.*s' takes no value", SHOWN(name));
+        wrong("'%s' takes no value", SHOWN(name));
     if (rule != MARK && name.length + 1 >= here.length)
-        wrong("'%.*s' has no value", SHOWN(name));
+        wrong("'%s' has no value", SHOWN(name));
     struct part text = {name.at + name.length + 1, here.length - name.length - 1};
     if (rule == WORDS)
         read_words(text);
@@ -261,7 +290,7 @@ static void read_line(struct part first) {
     while (entry.kind < KINDS && !is(first, kinds[entry.kind].name))
         entry.kind++;
     if (entry.kind == KINDS)
-        wrong("no line starts with '%.*s'", SHOWN(first));
+        wrong("no line starts with '%s'", SHOWN(first));
     if ((entry.kind == BOOK) != (lines_of[BOOK] == 0))
         wrong(lines_of[BOOK] ? "a second line of 'book'" : "the first line is not that of 'book'");
     while ((here = next_word(here.at + here.length)).length > 0)
@@ -305,7 +334,16 @@ static char *text;
 static size_t text_length, text_room;
 
 static _Noreturn void stop(const char *what) {
-    fprintf(stderr, "%s: %s\n", file, what);
+    name_file();
+    fprintf(stderr, ": %s\n", what);
+    exit(2);
+}
+
+/* The same with the reason that errno has. */
+static _Noreturn void stop_for(const char *what) {
+    int reason = errno;
+    name_file();
+    fprintf(stderr, ": %s: %s\n", what, strerror(reason));
     exit(2);
 }
 
@@ -386,30 +424,45 @@ static const char *say_book(const uint8_t *book, size_t bytes, size_t *place) {
 
 /* ---- the commands */
 
-/* The whole input, with a zero byte after it. */
-static char *read_all(size_t *length) {
+static char *all; /* the input, with a zero byte after it */
+
+/* Reads the whole input, and returns its length. */
+static size_t read_all(void) {
     FILE *in = strcmp(file, "-") ? fopen(file, "rb") : stdin;
-    size_t room = 65536, more;
-    char *all = malloc(room + 1);
     if (!in)
-        stop("cannot be opened");
-    for (*length = 0; all && (more = fread(all + *length, 1, room - *length, in)) > 0;)
-        if ((*length += more) == room)
-            all = realloc(all, (room *= 2) + 1);
-    if (!all || ferror(in))
-        stop(all ? "cannot be read" : "no memory");
-    all[*length] = 0;
-    return all;
+        stop_for("cannot be opened");
+    size_t length = 0, room = 0, more = 0;
+    do {
+        length += more;
+        if (length == room && !(all = realloc(all, (room = 2 * room + 65536) + 1)))
+            stop("no memory");
+    } while ((more = fread(all + length, 1, room - length, in)) > 0);
+    if (ferror(in))
+        stop_for("cannot be read");
+    if (in != stdin)
+        fclose(in);
+    all[length] = 0;
+    return length;
+}
+
+/* Writes bytes to standard output, and sees that they are written. */
+static void write_all(const void *at, size_t bytes) {
+    if (fwrite(at, 1, bytes, stdout) == bytes && !fflush(stdout))
+        return;
+    fprintf(stderr, "standard output cannot be written: %s\n", strerror(errno));
+    exit(2);
 }
 
 static uint8_t made[BOOK_MAX];
 
 /* Each line's digits are made into bytes where they stand. */
-static int roundtrip(char *at) {
+static int roundtrip(size_t length) {
     size_t lines = 0, whole = 0, same = 0, place;
-    for (char *end; *at; at = end + (*end != 0), lines++) {
+    for (char *at = all, *end; at < all + length; at = end + 1, lines++) {
         size_t bytes = (strcspn(at, "\n") + 1) / 2;
         end = at + strcspn(at, "\n");
+        if (!*end && end < all + length)
+            stop("a zero byte");
         for (size_t i = 0; i < bytes; i++) {
             unsigned high = digit(at[2 * i]), low = digit(at[2 * i + 1]);
             if (high > 15 || low > 15)
@@ -421,28 +474,37 @@ static int roundtrip(char *at) {
         whole++;
         same += pack(text, text_length, made) == bytes && !memcmp(made, at, bytes);
     }
-    printf("%zu books, %zu of them whole, %zu of these the same again\n", lines, whole, same);
+    text_length = 0;
+    say("%zu books, %zu of them whole, %zu of these the same again\n", lines, whole, same);
+    write_all(text, text_length);
     return whole != same;
 }
 
+/* The text of a book that is whole. */
+static int show(size_t length) {
+    size_t place;
+    const char *why = say_book((uint8_t *)all, length, &place);
+    if (!why)
+        return write_all(text, text_length), 0;
+    name_file();
+    fprintf(stderr, ": byte %zu: %s\n", place, why);
+    return 2;
+}
+
 int main(int argc, char **argv) {
-    const char *command = argc == 2 || argc == 3 ? argv[1] : "", *why = NULL;
-    size_t length = 0, place;
+    const char *command = argc == 2 || argc == 3 ? argv[1] : "";
+    int status = 0;
     file = argc == 3 ? argv[2] : "-";
     if (strcmp(command, "pack") && strcmp(command, "text") && strcmp(command, "roundtrip")) {
         fputs("usage: book pack TEXT | book text BOOK | book roundtrip LINES\n", stderr);
         return 2;
     }
-    char *all = read_all(&length);
-    if (*command == 'r')
-        return roundtrip(all);
+    size_t length = read_all();
     if (*command == 'p')
-        fwrite(made, 1, pack(all, length, made), stdout);
-    else if ((why = say_book((uint8_t *)all, length, &place)) != NULL)
-        fprintf(stderr, "%s: byte %zu: %s\n", file, place, why);
+        write_all(made, pack(all, length, made));
     else
-        fwrite(text, 1, text_length, stdout);
+        status = *command == 'r' ? roundtrip(length) : show(length);
     free(text);
     free(all);
-    return why || fflush(stdout) ? 2 : 0;
+    return status;
 }
