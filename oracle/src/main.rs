@@ -19,13 +19,14 @@ use compare::Counts;
 use std::process::ExitCode;
 
 const USAGE: &str = "\
-usage: oracle run [MODE|all] [BOOKS] [SEED]   compares so many books of each mode
+usage: oracle run [MODE|all] [BOOKS] [SEED]   compares so many books of each mode, in a run over all fewer long ones
        oracle judge HEX                       writes what both say of one book
        oracle large                           compares the books of docs/SPEED.md, in four orders and forms
        oracle books PAGE                      holds both to the books of a page, as docs/DIFFERENCES.md
        oracle list FOLDER                     writes the list that the program `replay` runs: stdin and stdout
        oracle selftest                        shows that a difference in each kind is seen, with the smallest book that shows it
-       oracle speed [NAME]                    times both on the books of docs/SPEED.md, or on those with NAME in their name";
+       oracle speed [NAME]                    times both on the books of docs/SPEED.md, or on those with NAME in their name
+modes: mixed, forest, chains, runs, damaged, short, and those with long books: bushes, many";
 
 fn main() -> ExitCode {
     let args: Vec<String> = std::env::args().skip(1).collect();
@@ -51,7 +52,8 @@ fn main() -> ExitCode {
     }
 }
 
-/// Compares books of one mode or of all. A run over all modes fails also where a kind or an answer is never reached.
+/// Compares books of one mode or of all. A run over all modes has its share of long books, and fails also where a kind or
+/// an answer is never reached.
 fn run(args: &[&str]) -> Option<bool> {
     let mode = args.first().copied().unwrap_or("all");
     let modes = if mode == "all" { Mode::ALL.to_vec() } else { vec![Mode::from_name(mode)?] };
@@ -60,6 +62,7 @@ fn run(args: &[&str]) -> Option<bool> {
     let threads = std::thread::available_parallelism().map_or(1, |n| n.get() as u64);
     let mut total = Counts::new();
     for &mode in &modes {
+        let books = if modes.len() == 1 { books } else { mode.share(books) };
         match compare::run(mode, seed, 0..books, threads) {
             Ok(counts) => {
                 println!("{}: {} books, {} of them accepted, no difference", mode.name(), counts.books, counts.accepted);
