@@ -24,7 +24,7 @@ usage: oracle run [MODE|all] [BOOKS] [SEED]   compares so many books of each mod
        oracle large                           compares the books of docs/SPEED.md, in four orders and forms
        oracle books PAGE                      holds both to the books of a page, as docs/DIFFERENCES.md
        oracle list FOLDER                     writes the list that the program `replay` runs: stdin and stdout
-       oracle selftest                        shows that a difference in each kind is seen, with the smallest book that shows it
+       oracle selftest                        shows that a change of a finding of each kind is seen, with the smallest book that shows it
        oracle speed [NAME]                    times both on the books of docs/SPEED.md, or on those with NAME in their name
 modes: mixed, forest, chains, runs, damaged, short, and those with long books: bushes, many";
 
@@ -37,7 +37,7 @@ fn main() -> ExitCode {
         ["judge", hex] => judge(hex),
         ["books", page] => books(page),
         ["list", folder] => list(folder),
-        ["selftest"] => selftest(),
+        ["selftest"] => Some(selftest::run()),
         ["speed"] => speed(""),
         ["speed", name] => speed(name),
         _ => None,
@@ -146,15 +146,6 @@ fn list(folder: &str) -> Option<bool> {
             Some(false)
         }
     }
-}
-
-/// A difference in each kind has to be seen.
-fn selftest() -> Option<bool> {
-    let all = (1..=50).map(|kind| (kind, selftest::smallest(kind)));
-    Some(all.fold(true, |is_good, (kind, book)| {
-        println!("{kind}: {}", book.as_ref().map_or("no difference was seen".to_string(), |b| text::hex(b)));
-        is_good && book.is_some()
-    }))
 }
 
 /// The tables of docs/SPEED.md. Fails where Dockwrench takes more than half of the published rules' time.
