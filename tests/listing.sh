@@ -7,8 +7,8 @@ listing=target/bin/listing
 made=target/tests/listing
 mkdir -p "$made"
 
-# split RUNS VALUE: from bucket 1 on, so many runs of size 0 a bucket apart, then a key that no rule reads, with a value of so many bytes
-split() {
+# between RUNS VALUE: from bucket 1 on, so many runs of size 0 a bucket apart, then a key that no rule reads, with a value of so many bytes
+between() {
     echo "book first_bucket=1 buckets=$(($1 + 2))"
     seq 2 $(($1 + 1)) | sed 's/.*/key btree=freespace type=set offset=&/'
     echo "key btree=255 type=255 offset=0 value=$(head -c "$2" /dev/zero | od -An -v -tx1 | tr -d ' \n')"
@@ -44,12 +44,12 @@ book() {
 }
 
 lengths() {
-    split 2338 12 | book longest
+    between 2338 12 | book longest
     say 'as a file' 2339 1 <"$made/longest"
-    cat "$made/longest" | say 'through a pipe' 2339 1
-    split 2338 13 | book longer
+    head -c 65537 "$made/longest" | say 'through a pipe' 2339 1
+    between 2338 13 | book longer
     say 'as a file' <"$made/longer"
-    cat "$made/longer" | say 'through a pipe'
+    head -c 65538 "$made/longer" | say 'through a pipe'
     head -c 1048577 /dev/zero | say '1,048,577 zeros'
     say 'zeros without an end' </dev/zero
 }
@@ -66,13 +66,17 @@ parts() {
     say 'no bytes' </dev/null
 }
 
-# errors: the last is an error behind bytes, the shell's memory from the last page of its stack on
+# errors: the last is behind a whole book, in a pipe that is open for writing too and does not wait
 errors() {
-    local end
     say 'standard input closed' <&-
     say 'a directory' </
-    end=$(sed -n 's/^[0-9a-f]*-\([0-9a-f]*\) .*\[stack\]$/\1/p' "/proc/$$/maps")
-    { dd bs=4096 skip=$((0x$end / 4096 - 1)) count=0 2>"$made/dd" || true; say 'an error behind bytes'; } <"/proc/$$/mem"
+    rm -f "$made/pipe"
+    mkfifo "$made/pipe"
+    exec 3<>"$made/pipe"
+    cat crates/listing/stdin >&3
+    dd iflag=nonblock count=0 status=none <&3
+    say 'an error behind a book' <&3
+    exec 3>&-
 }
 
 lengths
