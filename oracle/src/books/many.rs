@@ -1,9 +1,10 @@
-//! Long books: 1,000 to 15,000 keys of every btree and type, over pools of ids that are small or large.
+//! Long books: 1,000 to 15,000 keys of every btree and type, over pools of ids that are small or large. One in four is
+//! filled up to a mebibyte, or to a byte more, which is refused.
 
 use super::random::Random;
 use super::values::*;
 use super::world::World;
-use super::{mixed, runs};
+use super::{damaged, mixed, runs};
 use crate::layout::{Book, Key, HEADER_BYTES, KEY_HEAD_BYTES, LONGEST_BOOK, LONGEST_VALUE};
 
 /// Lengths of values at which some rule changes, and the longest.
@@ -19,19 +20,22 @@ pub fn book(r: &mut Random) -> Book {
     let w = &mut World::new(r, book.device);
     while keys.len() < count {
         w.ids = [w.r.pick(&ids), w.r.pick(&ids), w.r.pick(&ids), w.r.pick(&ids)];
-        mixed::add_links(w, &mut keys);
-        mixed::add_fields(w, &mut keys);
-        keys.push(any(w, longest));
+        let mut some = vec![any(w, longest)];
+        mixed::add_links(w, &mut some);
+        mixed::add_fields(w, &mut some);
+        keys.extend(some.into_iter().filter(|k| book.mark || k.btree != TREES));
     }
     keys.truncate(count);
-    keys.retain(|k| book.mark || k.btree != TREES);
     book.keys = keys;
     mixed::tables(w, &mut book);
     if !r.one_in(4) {
         r.shuffle(&mut book.keys);
     }
     sort_tables(&mut book);
-    cut(&mut book);
+    let left = cut(&mut book);
+    if r.one_in(4) {
+        damaged::fill(&mut book, left + r.place(2));
+    }
     book
 }
 
@@ -55,16 +59,17 @@ fn any(w: &mut World, longest: usize) -> Key {
     Key { btree, key_type, size: r.pick(&[0, 0, 1, u32::MAX]), inode, offset: r.edge_64(), snapshot: r.pick(&[0, 0, 1, u32::MAX]), value }
 }
 
-/// Leaves out the last keys of a book that is too long.
-fn cut(book: &mut Book) {
+/// Leaves out the last keys of a book that is too long; at least a key's head fits behind the others. Answers how many
+/// bytes are left.
+fn cut(book: &mut Book) -> usize {
     let tables = 8 * (book.parents.len() + book.subvolumes.len()) + 9 * book.gens.len() + 10 * book.alloc.len();
     let mut left = LONGEST_BOOK - HEADER_BYTES - tables;
-    let fits = |key: &&Key| {
-        let size = KEY_HEAD_BYTES + key.value.len();
-        let is_in = size <= left;
-        left = left.saturating_sub(size);
-        is_in
-    };
-    let count = book.keys.iter().take_while(fits).count();
+    let size = |key: &Key| KEY_HEAD_BYTES + key.value.len();
+    let mut count = 0;
+    while count < book.keys.len() && size(&book.keys[count]) + KEY_HEAD_BYTES <= left {
+        left -= size(&book.keys[count]);
+        count += 1;
+    }
     book.keys.truncate(count);
+    left
 }
