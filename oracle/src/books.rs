@@ -1,9 +1,11 @@
 //! Test books for differential runs. A book follows from its mode, a seed and an index alone, so that runs can be split and repeated.
 
+mod bushes;
 mod chains;
 mod damaged;
 mod fields;
 mod forest;
+mod many;
 mod mixed;
 mod random;
 mod runs;
@@ -16,16 +18,24 @@ use random::Random;
 
 #[derive(Clone, Copy, PartialEq, Eq, Debug)]
 pub enum Mode {
-    Mixed,
-    Forest,
-    Chains,
-    Runs,
-    Damaged,
-    Short,
+    Mixed = 0,
+    Forest = 1,
+    Chains = 2,
+    Runs = 3,
+    Damaged = 4,
+    Short = 5,
+    // 6 are the asked ids
+    Bushes = 7,
+    Many = 8,
 }
 
+/// The numbers from which the asked ids of all modes are drawn, beside those of the modes.
+const ASKED: u64 = 6;
+/// A run over all modes has at least so many books of a mode with long ones.
+const FEWEST: u64 = 10;
+
 impl Mode {
-    pub const ALL: [Mode; 6] = [Mode::Mixed, Mode::Forest, Mode::Chains, Mode::Runs, Mode::Damaged, Mode::Short];
+    pub const ALL: [Mode; 8] = [Mode::Mixed, Mode::Forest, Mode::Chains, Mode::Runs, Mode::Damaged, Mode::Short, Mode::Bushes, Mode::Many];
 
     pub fn name(self) -> &'static str {
         match self {
@@ -35,6 +45,17 @@ impl Mode {
             Mode::Runs => "runs",
             Mode::Damaged => "damaged",
             Mode::Short => "short",
+            Mode::Bushes => "bushes",
+            Mode::Many => "many",
+        }
+    }
+
+    /// How many books of this mode a run of so many over all modes has: a long book takes as long as hundreds of others.
+    pub fn share(self, books: u64) -> u64 {
+        match self {
+            Mode::Bushes => FEWEST.max(books / 100),
+            Mode::Many => FEWEST.max(books / 200),
+            _ => books,
         }
     }
 
@@ -53,12 +74,14 @@ pub fn book(mode: Mode, seed: u64, index: u64) -> Vec<u8> {
         Mode::Runs => runs::book(r).encode(),
         Mode::Damaged => damaged::book(r),
         Mode::Short => short::book(r, index),
+        Mode::Bushes => bushes::book(r).encode(),
+        Mode::Many => many::book(r).encode(),
     }
 }
 
 /// Ids worth asking about in a book's two questions (1 to 4): from its parents table, its snapshot and subvolume keys, and some that are absent.
 pub fn asked(bytes: &[u8], seed: u64, index: u64) -> Vec<u32> {
-    let r = &mut Random::new(Mode::ALL.len() as u64, seed, index);
+    let r = &mut Random::new(ASKED, seed, index);
     let book = Book::decode(bytes).unwrap_or_default();
     (0..=r.below(4)).map(|_| asked_id(r, &book)).collect()
 }

@@ -14,6 +14,32 @@ pub enum Expected {
     Refused(Refusal),
 }
 
+/// What is made wrong in the judge's findings.
+#[derive(Clone, Copy, Debug)]
+pub enum Change {
+    Kind,
+    Subject,
+    Object,
+    Order,
+    Dropped,
+    Doubled,
+}
+
+impl Change {
+    pub const ALL: [Change; 6] = [Change::Kind, Change::Subject, Change::Object, Change::Order, Change::Dropped, Change::Doubled];
+
+    pub fn name(self) -> &'static str {
+        match self {
+            Change::Kind => "another kind",
+            Change::Subject => "another subject",
+            Change::Object => "another object",
+            Change::Order => "exchanged with a neighbour",
+            Change::Dropped => "one dropped",
+            Change::Doubled => "one doubled",
+        }
+    }
+}
+
 impl Expected {
     pub fn of(bytes: &[u8]) -> Expected {
         match Book::decode(bytes) {
@@ -33,11 +59,19 @@ impl Expected {
         }
     }
 
-    /// Makes the findings of one kind wrong, for a test of the comparison.
-    pub fn change(&mut self, wrong: u8) {
-        if let Expected::Accepted { findings, .. } = self {
-            findings.iter_mut().filter(|f| f.kind == wrong).for_each(|f| f.object ^= 1);
+    /// Makes one finding of a kind wrong, the last, for a test of the comparison. Says whether there is one to change.
+    pub fn change(&mut self, change: Change, kind: u8) -> bool {
+        let Expected::Accepted { findings, .. } = self else { return false };
+        let Some(last) = findings.iter().rposition(|f| f.kind == kind) else { return false };
+        match change {
+            Change::Kind => findings[last].kind = kind % 50 + 1,
+            Change::Subject => findings[last].subject ^= 1,
+            Change::Object => findings[last].object ^= 1,
+            Change::Order => return exchange(findings, last),
+            Change::Dropped => drop(findings.remove(last)),
+            Change::Doubled => findings.insert(last, findings[last]),
         }
+        true
     }
 
     /// The work words that the book needs.
@@ -80,6 +114,16 @@ impl Expected {
             Expected::Accepted { unavailable, .. } => Answer { number: 0, place: 0, count: u32::from(unavailable.contains(&id)) },
         }
     }
+}
+
+/// Exchanges a finding with the one before it or behind it that is another; says whether there is one.
+fn exchange(findings: &mut [Finding], at: usize) -> bool {
+    let is_other = |&other: &usize| findings.get(other).is_some_and(|f| *f != findings[at]);
+    let other = [at.wrapping_sub(1), at + 1].into_iter().find(is_other);
+    other.is_some_and(|other| {
+        findings.swap(at, other);
+        true
+    })
 }
 
 fn refused(Refusal(number, place): Refusal) -> Answer {

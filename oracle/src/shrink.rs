@@ -1,72 +1,122 @@
 //! Makes a book smaller while something still holds of it.
 use crate::layout::Book;
+use std::ops::Range;
+use std::time::{Duration, Instant};
 
-/// The smallest book that was found: no single step makes it smaller. Shorter is smaller; of one length, fewer bytes that are not zero.
-pub fn smallest(mut book: Vec<u8>, mut holds: impl FnMut(&[u8]) -> bool) -> Vec<u8> {
-    while let Some(smaller) = candidates(&book).into_iter().filter(|c| size(c) < size(&book)).find(|c| holds(c)) {
-        book = smaller;
+/// How long a book is made smaller at most. A long book takes some hundredths of a second to judge, and where nearly all
+/// of its keys are needed there are more steps than keys.
+const LONGEST: Duration = Duration::from_secs(60);
+/// The single bytes of longer books are left as they are.
+const LONGEST_BY_BYTES: usize = 4096;
+
+/// The smallest book that was found: no single step makes it smaller, if there was time for all. Shorter is smaller; of
+/// one length, fewer bytes that are not zero.
+pub fn smallest(book: Vec<u8>, holds: impl FnMut(&[u8]) -> bool) -> Vec<u8> {
+    let mut shrinker = Shrinker { book, holds, until: Instant::now() + LONGEST };
+    loop {
+        let before = size(&shrinker.book);
+        shrinker.parts();
+        shrinker.values();
+        shrinker.cuts();
+        shrinker.bytes();
+        if size(&shrinker.book) == before {
+            return shrinker.book;
+        }
     }
-    book
 }
 
 fn size(bytes: &[u8]) -> (usize, usize) {
     (bytes.len(), bytes.iter().filter(|&&b| b != 0).count())
 }
 
-/// Books one step away, large steps first.
-fn candidates(bytes: &[u8]) -> Vec<Vec<u8>> {
-    let mut all = match Book::decode(bytes) {
-        Ok(book) => parts_left_out(&book).iter().map(Book::encode).collect(),
-        Err(_) => cuts(bytes),
-    };
-    // the longest books are tried by their parts alone
-    if bytes.len() <= 4096 {
-        all.extend((0..bytes.len()).filter(|&i| bytes[i] != 0).map(|i| {
-            let mut changed = bytes.to_vec();
-            changed[i] = 0;
-            changed
-        }));
-    }
-    all
+/// A table of a book: its length, and the book without a range of it.
+type Table = (fn(&Book) -> usize, fn(&mut Book, Range<usize>));
+
+const TABLES: [Table; 5] = [
+    (|b| b.keys.len(), |b, range| drop(b.keys.drain(range))),
+    (|b| b.parents.len(), |b, range| drop(b.parents.drain(range))),
+    (|b| b.subvolumes.len(), |b, range| drop(b.subvolumes.drain(range))),
+    (|b| b.gens.len(), |b, range| drop(b.gens.drain(range))),
+    (|b| b.alloc.len(), |b, range| drop(b.alloc.drain(range))),
+];
+
+struct Shrinker<F> {
+    book: Vec<u8>,
+    holds: F,
+    until: Instant,
 }
 
-/// The book without some of its entries, halves first, and with shorter values.
-fn parts_left_out(book: &Book) -> Vec<Book> {
-    let mut all = Vec::new();
-    let longest = [book.parents.len(), book.subvolumes.len(), book.gens.len(), book.alloc.len(), book.keys.len()].into_iter().max().unwrap_or(0);
-    let mut step = longest;
+impl<F: FnMut(&[u8]) -> bool> Shrinker<F> {
+    /// Takes a book made from the last if it is smaller and it holds of it. Says whether it did.
+    fn take(&mut self, make: impl FnOnce(&[u8]) -> Option<Vec<u8>>) -> bool {
+        if Instant::now() >= self.until {
+            return false;
+        }
+        let made = make(&self.book).filter(|made| size(made) < size(&self.book) && (self.holds)(made));
+        let is_taken = made.is_some();
+        self.book = made.unwrap_or(std::mem::take(&mut self.book));
+        is_taken
+    }
+
+    /// The same for the book with a change, if it is a whole one.
+    fn change(&mut self, apply: impl FnOnce(&mut Book)) -> bool {
+        self.take(|bytes| {
+            let mut book = Book::decode(bytes).ok()?;
+            apply(&mut book);
+            Some(book.encode())
+        })
+    }
+
+    /// Leaves out entries and keys.
+    fn parts(&mut self) {
+        for (length, without) in TABLES {
+            let count = Book::decode(&self.book).map_or(0, |book| length(&book));
+            leave_out(count, |range| self.change(|book| without(book, range)));
+        }
+    }
+
+    /// Makes values shorter.
+    fn values(&mut self) {
+        let keys = Book::decode(&self.book).map_or(Vec::new(), |book| book.keys);
+        for (i, key) in keys.iter().enumerate() {
+            let mut length = key.value.len();
+            let shorter = |length: usize| [0, length / 2, length.saturating_sub(1)];
+            while let Some(less) = shorter(length).into_iter().find(|&less| self.change(|book| book.keys[i].value.truncate(less))) {
+                length = less;
+            }
+        }
+    }
+
+    /// Leaves out bytes of what is no whole book.
+    fn cuts(&mut self) {
+        if Book::decode(&self.book).is_err() {
+            leave_out(self.book.len(), |range| self.take(|bytes| Some([&bytes[..range.start], &bytes[range.end..]].concat())));
+        }
+    }
+
+    /// Makes bytes zero.
+    fn bytes(&mut self) {
+        let length = if self.book.len() <= LONGEST_BY_BYTES { self.book.len() } else { 0 };
+        for i in 0..length {
+            self.take(|bytes| Some([&bytes[..i], &[0], &bytes[i + 1..]].concat()));
+        }
+    }
+}
+
+/// Goes over the ranges of so many things, first all of them, then halves and so on to single ones. The call leaves a
+/// range out, or says that it did not.
+fn leave_out(mut count: usize, mut without: impl FnMut(Range<usize>) -> bool) {
+    let mut step = count;
     while step > 0 {
-        for from in (0..longest).step_by(step) {
-            let range = |len: usize| from.min(len)..(from + step).min(len);
-            let mut without = vec![book.clone(); 5];
-            without[0].parents.drain(range(book.parents.len()));
-            without[1].subvolumes.drain(range(book.subvolumes.len()));
-            without[2].gens.drain(range(book.gens.len()));
-            without[3].alloc.drain(range(book.alloc.len()));
-            without[4].keys.drain(range(book.keys.len()));
-            all.append(&mut without);
+        let mut from = 0;
+        while from < count {
+            let end = count.min(from + step);
+            if without(from..end) {
+                count -= end - from;
+            } else {
+                from = end;
+            }
         }
         step /= 2;
     }
-    for (i, key) in book.keys.iter().enumerate() {
-        for shorter in [0, key.value.len() / 2, key.value.len().saturating_sub(1)] {
-            let mut changed = book.clone();
-            changed.keys[i].value.truncate(shorter);
-            all.push(changed);
-        }
-    }
-    all
-}
-
-/// The first bytes, and the bytes without a stretch in their middle.
-fn cuts(bytes: &[u8]) -> Vec<Vec<u8>> {
-    let mut all = Vec::new();
-    let mut step = bytes.len() / 2;
-    while step > 0 {
-        for from in (0..bytes.len() - step + 1).step_by(step) {
-            all.push([&bytes[..from], &bytes[from + step..]].concat());
-        }
-        step /= 2;
-    }
-    all
 }

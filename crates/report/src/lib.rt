@@ -1,10 +1,27 @@
-// Answers of the main call, in words on standard output.
+// What a read gave, by its answer; and answers of the main call, in words on standard output.
 ghost use mathlib.Core.Path.{_≡_};
 ghost use lib.ListN.{length};
 ghost use Rattle.book.specs.Refusals.{parse};
 ghost use Rattle.dockwrench.specs.Answers.{checkOf, bufferAfter, workAfter};
+ghost use Rattle.report.specs.Reading.{gaveOf};
 use dockwrench::Checked;
 use libc::STDOUT_FILENO;
+
+// What a read gave: so many bytes, or an error.
+pub enum Input {
+    Bytes(usize),
+    Error,
+}
+
+// What a call of C's read into this buffer gave, by its answer. 0 bytes are the end of the input, and an error is not.
+pub fn gave(answer: isize, buffer: &[u8]) -> Input
+    ensures { λ r. ⌜ r ≡ gaveOf answer (length (now (buffer .entry))) ⌝ }
+{
+    if answer < 0 {
+        return Input::Error;
+    }
+    Input::Bytes(io::count(answer, buffer))
+}
 
 // Writes `refused`, the refusal's number and its place; returns the refusal.
 pub fn refused(number: usize, place: usize) -> Checked

@@ -40,14 +40,18 @@ fn longest(r: &mut Random) -> Vec<u8> {
         bytes.resize(length, 0);
         return bytes;
     }
-    let mut left = length - HEADER_BYTES;
+    fill(&mut book, length - HEADER_BYTES);
+    book.encode()
+}
+
+/// Adds keys that no rule judges and that take so many bytes, at least those of a head.
+pub fn fill(book: &mut Book, mut left: usize) {
     while left > 0 {
         let value = if left >= 2 * (KEY_HEAD_BYTES + LONGEST_VALUE) { LONGEST_VALUE } else { (left / 2).min(LONGEST_VALUE) };
         let value = if left <= KEY_HEAD_BYTES + LONGEST_VALUE { left - KEY_HEAD_BYTES } else { value };
         book.keys.push(key(30, 0, 0, 0, vec![0; value]));
         left -= KEY_HEAD_BYTES + value;
     }
-    book.encode()
 }
 
 /// Bytes of no book, alone or after a header with small counts.

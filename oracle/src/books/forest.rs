@@ -74,7 +74,7 @@ fn grow(r: &mut Random, trees: usize) -> Vec<Node> {
 }
 
 /// Distinct ids that are not 0: rising, falling, from the top down, or scattered.
-fn distinct(r: &mut Random, count: usize) -> Vec<u32> {
+pub fn distinct(r: &mut Random, count: usize) -> Vec<u32> {
     let count = count as u32;
     match r.below(4) {
         0 => (1..=count).collect(),

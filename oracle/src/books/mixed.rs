@@ -38,7 +38,8 @@ pub fn book(r: &mut Random) -> Book {
     book
 }
 
-fn add_links(w: &mut World, keys: &mut Vec<Key>) {
+/// Groups of linked keys, and single ones.
+pub fn add_links(w: &mut World, keys: &mut Vec<Key>) {
     for _ in 0..w.r.below(3) {
         w.r.pick(&GROUPS)(w, keys);
     }
@@ -46,7 +47,8 @@ fn add_links(w: &mut World, keys: &mut Vec<Key>) {
     keys.extend((0..singles).map(|_| w.r.pick(&LINK_MAKERS)(w)));
 }
 
-fn add_fields(w: &mut World, keys: &mut Vec<Key>) {
+/// Keys that only the rules on single keys judge.
+pub fn add_fields(w: &mut World, keys: &mut Vec<Key>) {
     let singles = w.r.place(6);
     keys.extend((0..singles).map(|_| w.r.pick(&FIELD_MAKERS)(w)));
 }
@@ -76,7 +78,7 @@ fn space(r: &mut Random, book: &mut Book) {
 }
 
 /// The tables as the keys give them, in one of three with one entry more, less or changed.
-fn tables(w: &mut World, book: &mut Book) {
+pub fn tables(w: &mut World, book: &mut Book) {
     let words = |btree: u8, at: usize| {
         let of_btree = book.keys.iter().filter(move |k| k.btree == btree);
         of_btree.filter_map(move |k| Some((k.offset as u32, word(&k.value, at)?))).collect::<Vec<_>>()

@@ -30,10 +30,31 @@ pub fn add(r: &mut Random, book: &mut Book) {
     }
 }
 
-/// Covers the buckets by pieces of so many sorts, a hole being the fourth; the last bucket is where the pieces end.
+/// The same with so many pieces, or runs and alloc entries, for a book without other keys.
+pub fn add_many(r: &mut Random, book: &mut Book, count: usize) {
+    book.first_bucket = r.pick(&[0, 1, 255, 0xffff]);
+    book.buckets = u64::from(book.first_bucket) + r.below(2 * count as u64);
+    if r.one_in(2) {
+        tiles(r, book, 4, count as u64);
+    }
+    for _ in 0..r.place(count) {
+        disturb(r, book);
+    }
+    for _ in 0..r.place(1 + count / 64) {
+        generations(r, book);
+    }
+}
+
+/// Covers the buckets by up to six pieces of so many sorts.
 fn tile(r: &mut Random, book: &mut Book, sorts: u64) {
+    let pieces = r.below(7);
+    tiles(r, book, sorts, pieces);
+}
+
+/// Covers the buckets by so many pieces, of which a hole is the fourth sort; the last bucket is where the pieces end.
+fn tiles(r: &mut Random, book: &mut Book, sorts: u64, pieces: u64) {
     let mut at = u64::from(book.first_bucket);
-    for _ in 0..r.below(7) {
+    for _ in 0..pieces {
         let end = at + 1 + r.below(4);
         let sort = r.below(sorts);
         piece(r, book, at..end, sort);
@@ -56,7 +77,7 @@ fn piece(r: &mut Random, book: &mut Book, buckets: std::ops::Range<u64>, sort: u
     }
 }
 
-/// One change to sound runs: another count of buckets, a run moved, an entry more.
+/// One change to runs: another count of buckets, another first bucket, an entry or a run more.
 fn disturb(r: &mut Random, book: &mut Book) {
     match r.below(4) {
         0 => book.buckets = r.near(book.buckets),
