@@ -1,5 +1,5 @@
 -- What the answers of the calls below say.
-use Prim.Native.Nat.{ℕ, _+_, _*_, _^_, _≤_, _<_}
+use Prim.Native.Nat.{ℕ, _+_, _*_, _/_, _%_, _^_, _≤_, _<_}
 use mathlib.Core.Path.{_≡_, refl, sym, ap, _∙_}
 use mathlib.Core.Bool.{Bool, true, false, cond}
 use mathlib.Core.List.{List, [], _∷_, _++_, append-assoc, append-nil}
@@ -27,7 +27,7 @@ use Rattle.dockwrench.specs.declared.Checked.{Checked}
 use Rattle.dockwrench.specs.declared.Checked.the-variants as checked
 use Rattle.dockwrench.specs.declared.Ancestor.the-variants as ancestor
 use Rattle.dockwrench.specs.declared.Availability.the-variants as availability
-use Rattle.dockwrench.specs.Answers.{workShort, zeros, countIn, checkBook, checkOf, checkedAnswer, ancestorBy, ancestorOf, availabilityBy, availabilityOf}
+use Rattle.dockwrench.specs.Answers.{Answer, workShort, zeros, countIn, checkBook, checkOf, checkedAnswer, ancestorBy, ancestorOf, availabilityBy, availabilityOf, packed, unpacked}
 
 -- the answers of `root_of`
 pub found-root : (o : Option (ℕ × ℕ)) {x n : ℕ} → rootIs o ≡ root.At x n → ancestor.Root x n ≡ ancestorBy o
@@ -149,3 +149,13 @@ bounds-by s room words (Outcome.refused n q) is {m} {p} e =
 
 pub check-bounds : (s : List ℕ) (room words : ℕ) {m p : ℕ} → checkOf (parse s) room words ≡ checked.Refused m p → (m ≤ 9) × (p ≤ 1048576)
 check-bounds s room words e = bounds-by s room words (parse s) refl e
+
+same : {n p c n′ p′ c′ : ℕ} → n ≡ n′ → p ≡ p′ → c ≡ c′
+    → _≡_ {A = Answer} (record { number = n; place = p; count = c }) (record { number = n′; place = p′; count = c′ })
+same a b c = rw (a, b, c)
+
+-- the numbers of an answer, each below its width, come back from the one number
+pub apart : {x n p c : ℕ} → x ≡ packed (record { number = n; place = p; count = c }) → n < 2 ^ 8 → p < 2 ^ 24 → c < 2 ^ 32
+    → unpacked x ≡ record { number = n; place = p; count = c }
+unfolding packed unpacked
+apart e hn hp hc = same (omega arith) (omega arith) (omega arith)

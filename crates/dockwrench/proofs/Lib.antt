@@ -1,2 +1,3 @@
 mod Laws
+mod Decode
 pub mod Demand3

@@ -1,6 +1,6 @@
 -- What the main call and the two questions answer, and what the main call leaves in the two areas it is lent (document 01, "The entry").
 -- The enums Checked, Ancestor and Availability are those that src/lib.rt declares.
-use Prim.Native.Nat.{ℕ, _+_, _*_, _^_}
+use Prim.Native.Nat.{ℕ, _+_, _*_, _/_, _%_, _^_}
 use mathlib.Core.Bool.{Bool, true, false, cond}
 use mathlib.Core.List.{List}
 use mathlib.Core.Option.{Option, none, some}
@@ -111,3 +111,7 @@ availabilityAnswer (availability.Refused number place) = record { number = numbe
 -- an answer for C as one number: 8 bits, 24 bits, 32 bits
 unfoldable pub packed : Answer → ℕ
 packed a = a .number * 2 ^ 56 + a .place * 2 ^ 32 + a .count
+
+-- and taken apart again
+unfoldable pub unpacked : ℕ → Answer
+unpacked x = record { number = x / 2 ^ 56; place = x / 2 ^ 32 % 2 ^ 24; count = x % 2 ^ 32 }

@@ -26,7 +26,9 @@ ghost use Rattle.dockwrench.specs.Answers.{
   ancestorAnswer,
   availabilityAnswer,
   packed,
+  unpacked,
 };
+ghost use Rattle.dockwrench.specs.Claim.{Claim};
 use book::Header;
 use book::Places;
 use book::Scanned;
@@ -102,6 +104,7 @@ fn check_book(book: &[u8], h: Header, at: Places, findings: &mut [u8], work: &mu
     ensures buffer { λ _. ⌜ now (findings .exit) ≡ bookBuffer (bookOf (now (book .entry))) (length (now (work .entry))) (now (findings .entry)) ⌝ }
     ensures work { λ _. ⌜ now (work .exit) ≡ bookWork (bookOf (now (book .entry))) (now (work .entry)) ⌝ }
     ensures few { λ r. ⌜ checkedAnswer r .count < 2 ^ 32 ⌝ }
+    ensures claim { λ r. ⌜ Claim (now (book .entry)) (checkedAnswer r) (now (findings .exit)) ⌝ }
 {
     if work.len() < 2 * (h.keys as usize) {
         return Checked::Refused(9, 0);
@@ -118,6 +121,7 @@ pub fn check(book: &[u8], findings: &mut [u8], work: &mut [u64]) -> Checked
     ensures buffer { λ _. ⌜ now (findings .exit) ≡ bufferAfter (parse (now (book .entry))) (length (now (work .entry))) (now (findings .entry)) ⌝ }
     ensures work { λ _. ⌜ now (work .exit) ≡ workAfter (parse (now (book .entry))) (now (work .entry)) ⌝ }
     ensures few { λ r. ⌜ checkedAnswer r .count < 2 ^ 32 ⌝ }
+    ensures claim { λ r. ⌜ Claim (now (book .entry)) (checkedAnswer r) (now (findings .exit)) ⌝ }
 {
     let s = scan::scan(book);
     match s {
@@ -174,7 +178,8 @@ pub fn ask_available(book: &[u8], id: u32) -> Availability
 // An answer as one number: 8 bits, 24 bits, 32 bits.
 fn pack(number: usize, place: usize, count: usize) -> u64
     requires { ⌜ (number < 256) × (place < 2 ^ 24) × (count < 2 ^ 32) ⌝ }
-    ensures { λ r. ⌜ r ≡ packed (record { number = number; place = place; count = count }) ⌝ }
+    ensures packed { λ r. ⌜ r ≡ packed (record { number = number; place = place; count = count }) ⌝ }
+    ensures apart { λ r. ⌜ unpacked r ≡ record { number = number; place = place; count = count } ⌝ }
 {
     (number as u64) * 0x100_0000_0000_0000 + (place as u64) * 0x1_0000_0000 + (count as u64)
 }
@@ -183,8 +188,10 @@ fn pack(number: usize, place: usize, count: usize) -> u64
 #[no_mangle]
 pub extern "C" fn dockwrench_check(book: &[u8], findings: &mut [u8], work: &mut [u64]) -> u64
     ensures answer { λ r. ⌜ r ≡ packed (checkedAnswer (checkOf (parse (now (book .entry))) (length (now (findings .entry))) (length (now (work .entry))))) ⌝ }
+    ensures apart { λ r. ⌜ unpacked r ≡ checkedAnswer (checkOf (parse (now (book .entry))) (length (now (findings .entry))) (length (now (work .entry)))) ⌝ }
     ensures buffer { λ _. ⌜ now (findings .exit) ≡ bufferAfter (parse (now (book .entry))) (length (now (work .entry))) (now (findings .entry)) ⌝ }
     ensures work { λ _. ⌜ now (work .exit) ≡ workAfter (parse (now (book .entry))) (now (work .entry)) ⌝ }
+    ensures claim { λ r. ⌜ Claim (now (book .entry)) (unpacked r) (now (findings .exit)) ⌝ }
 {
     let answer = check(book, findings, work);
     match answer {
@@ -197,7 +204,8 @@ pub extern "C" fn dockwrench_check(book: &[u8], findings: &mut [u8], work: &mut 
 // The ancestor question for C.
 #[no_mangle]
 pub extern "C" fn dockwrench_ancestor(book: &[u8], id: u32) -> u64
-    ensures { λ r. ⌜ r ≡ packed (ancestorAnswer (ancestorOf (parse (now (book .entry))) id)) ⌝ }
+    ensures answer { λ r. ⌜ r ≡ packed (ancestorAnswer (ancestorOf (parse (now (book .entry))) id)) ⌝ }
+    ensures apart { λ r. ⌜ unpacked r ≡ ancestorAnswer (ancestorOf (parse (now (book .entry))) id) ⌝ }
 {
     let answer = ask_ancestor(book, id);
     match answer {
@@ -210,7 +218,8 @@ pub extern "C" fn dockwrench_ancestor(book: &[u8], id: u32) -> u64
 // The availability question for C.
 #[no_mangle]
 pub extern "C" fn dockwrench_unavailable(book: &[u8], id: u32) -> u64
-    ensures { λ r. ⌜ r ≡ packed (availabilityAnswer (availabilityOf (parse (now (book .entry))) id)) ⌝ }
+    ensures answer { λ r. ⌜ r ≡ packed (availabilityAnswer (availabilityOf (parse (now (book .entry))) id)) ⌝ }
+    ensures apart { λ r. ⌜ unpacked r ≡ availabilityAnswer (availabilityOf (parse (now (book .entry))) id) ⌝ }
 {
     let answer = ask_available(book, id);
     match answer {

@@ -10,7 +10,7 @@ use lib.ListN.{length, take, drop, getD, set, length-append, length-take, length
 use lib.Seq.{sets, sets-eq, take-all, take-length, drop-length, take-append-add, drop-append-add}
 use lib.Dec.{lit<}
 use borrow.Author.Tests.{le-leb, lt-leb}
-use Rattle.findings.specs.Findings.{Finding, finding, encode, bytesOf, put, start, putFrom, countAll, Counted, Sink, sink, Found, Added, only}
+use Rattle.findings.specs.Findings.{Finding, finding, encode, bytesOf, put, start, putFrom, countAll, Counted, Encodable, Sink, sink, Found, Added, only}
 use Rattle.findings.proofs.Counts.{count-all-append, length-count-all, counted}
 
 -- ---- put, one finding at a time
@@ -92,17 +92,29 @@ put-from-append o n fs gs =
     ∙ rw (take-append-add, drop-append-add) (append-assoc t (take k p) (put (drop k p) gs))
     ∙ ap (λ (l : List ℕ). t ++ l) (put-append fs gs (drop a o))
 
+-- ---- findings that can be read back
+
+pub encodable-append : (fs gs : List Finding) → Encodable fs → Encodable gs → Encodable (fs ++ gs)
+unfolding Encodable
+encodable-append [] gs h e = e
+encodable-append (f ∷ fs) gs (k, s, o, h) e = (k, s, o, encodable-append fs gs h e)
+
+-- one finding
+pub encodable-one : {k s o : ℕ} → k < 2 ^ 8 → s < 2 ^ 64 → o < 2 ^ 64 → Encodable (finding k s o ∷ [])
+unfolding Encodable
+encodable-one k s o = (k, s, o, tt)
+
 -- ---- what a rule's proof cites
 
 -- before the first finding
 pub none : (o : Sink) → Found o [] 0 o
-unfolding put countAll
-none o = record { count = refl; buffer = refl; counts = refl }
+unfolding put countAll Encodable
+none o = record { count = refl; buffer = refl; counts = refl; encodable = tt }
 
 -- the first findings
 pub begin : {o o₁ : Sink} {fs : List Finding} {r : ℕ} → Added o 0 fs r o₁ → Found o fs r o₁
 unfolding putFrom
-begin {o} {fs = fs} a = record { count = omega (arith, a .count); buffer = a .buffer ∙ sym (at-start (o .buffer) 0 fs 0 (omega arith)); counts = a .counts }
+begin {o} {fs = fs} a = record { count = omega (arith, a .count); buffer = a .buffer ∙ sym (at-start (o .buffer) 0 fs 0 (omega arith)); counts = a .counts; encodable = a .encodable }
 
 -- after fs came gs
 pub more : {o o₁ o₂ : Sink} {fs gs : List Finding} {n r : ℕ} → Found o fs n o₁ → Added o₁ n gs r o₂ → Found o (fs ++ gs) r o₂
@@ -110,6 +122,7 @@ more {o} {fs = fs} {gs = gs} h a = record {
   count = a .count ∙ ap (λ (k : ℕ). k + length gs) (h .count) ∙ sym (length-append fs gs);
   buffer = a .buffer ∙ ap₂ (λ (b : List ℕ) (k : ℕ). putFrom b k gs) (h .buffer) (h .count) ∙ put-append fs gs (o .buffer);
   counts = a .counts ∙ ap (λ (c : List ℕ). countAll c gs) (h .counts) ∙ count-all-append fs gs (o .counts);
+  encodable = encodable-append fs gs (h .encodable) (a .encodable);
 }
 
 -- after fs, which came after n findings, came gs
@@ -118,6 +131,7 @@ added-more {o} {fs = fs} {gs = gs} {n = n} h a = record {
   count = omega (arith, h .count, a .count, length-append fs gs);
   buffer = a .buffer ∙ ap₂ (λ (b : List ℕ) (k : ℕ). putFrom b k gs) (h .buffer) (h .count) ∙ put-from-append (o .buffer) n fs gs;
   counts = a .counts ∙ ap (λ (c : List ℕ). countAll c gs) (h .counts) ∙ count-all-append fs gs (o .counts);
+  encodable = encodable-append fs gs (h .encodable) (a .encodable);
 }
 
 -- the part of the buffer o from a on, as a callee is lent it, and the buffer when the part is back at ys
@@ -133,7 +147,7 @@ pub lent : {c c′ : List ℕ} (o : List ℕ) (a n : ℕ) {gs : List Finding} {r
 lent o a n {gs} {r} {ys} e h =
     let whole : part o a ≡ drop a o = take-all (length o - a) (drop a o) (omega (arith, length-drop a o)) in
     let rest : drop (length o - a) (drop a o) ≡ [] = drop-of-length-le (drop a o) {i = length o - a} (omega (arith, length-drop a o)) in
-    record { count = ap (λ (k : ℕ). n + k) (h .count); buffer = rw (rest, append-nil ys, h .buffer, whole) (at-start o n gs a e); counts = h .counts }
+    record { count = ap (λ (k : ℕ). n + k) (h .count); buffer = rw (rest, append-nil ys, h .buffer, whole) (at-start o n gs a e); counts = h .counts; encodable = h .encodable }
 
 -- after the findings fs, a rule found gs in the part that was lent to it
 pub more-lent : {o : Sink} {o₁ ys c₁ c₂ : List ℕ} {fs gs : List Finding} (a n r : ℕ)
@@ -151,18 +165,19 @@ added-as e a = rw e at a
 
 -- where the findings are none: sink and count stay
 pub added-nil : {o : Sink} {n : ℕ} {fs : List Finding} → fs ≡ [] → Added o n fs n o
-unfolding putFrom put countAll
-added-nil {o} {n} e = rw e (record { count = omega arith; buffer = sym (take-append-drop (start (length (o .buffer)) n) (o .buffer)); counts = refl })
+unfolding putFrom put countAll Encodable
+added-nil {o} {n} e = rw e (record { count = omega arith; buffer = sym (take-append-drop (start (length (o .buffer)) n) (o .buffer)); counts = refl; encodable = tt })
 
 -- where the buffer has no room for them: it stays
-pub added-full : {o c : List ℕ} {n : ℕ} {fs : List Finding} → length o / 17 ≤ n → Added (sink o c) n fs (n + length fs) (sink o (countAll c fs))
+pub added-full : {o c : List ℕ} {n : ℕ} {fs : List Finding} → length o / 17 ≤ n → Encodable fs → Added (sink o c) n fs (n + length fs) (sink o (countAll c fs))
 unfolding putFrom
-added-full {o} {n = n} {fs = fs} h =
+added-full {o} {n = n} {fs = fs} h e =
     let at = start (length o) n in
     record {
       count = refl;
       buffer = sym (ap (λ (l : List ℕ). take at o ++ l) (put-full (drop at o) fs (omega (arith, length-drop at o))) ∙ take-append-drop at o);
       counts = refl;
+      encodable = e;
     }
 
 -- where a test held, and where it failed

@@ -25,6 +25,11 @@ bytesOf (suc w) x = x / 256 ^ w % 256 ∷ bytesOf w x
 unfoldable pub encode : Finding → List ℕ
 encode f = bytesOf 1 (f .kind) ++ (bytesOf 8 (f .subject) ++ bytesOf 8 (f .object))
 
+-- their numbers are within these widths, so that they can be read back from their bytes
+unfoldable pub Encodable : List Finding → Type 0
+Encodable [] = Unit {0}
+Encodable (f ∷ fs) = (f .kind < 2 ^ 8) × (f .subject < 2 ^ 64) × (f .object < 2 ^ 64) × Encodable fs
+
 -- the bytes of the findings, one after the other: "findings first in the buffer"
 unfoldable pub encodeAll : List Finding → List ℕ
 encodeAll [] = []
@@ -75,12 +80,14 @@ pub record Found (o : Sink) (fs : List Finding) (r : ℕ) (o′ : Sink) : Type 0
   pub count : r ≡ length fs
   pub buffer : o′ .buffer ≡ put (o .buffer) fs
   pub counts : o′ .counts ≡ countAll (o .counts) fs
+  pub encodable : Encodable fs
 
 -- after n findings came fs: the count is r now, and the sink, which was o, is o′
 pub record Added (o : Sink) (n : ℕ) (fs : List Finding) (r : ℕ) (o′ : Sink) : Type 0 where
   pub count : r ≡ n + length fs
   pub buffer : o′ .buffer ≡ putFrom (o .buffer) n fs
   pub counts : o′ .counts ≡ countAll (o .counts) fs
+  pub encodable : Encodable fs
 
 -- one finding where the test holds, else none
 unfoldable pub when : Bool → Finding → List Finding

@@ -1,13 +1,13 @@
 -- The rules one after the other.
 use Prim.Native.Nat.{ℕ, _+_, _-_, _<_, _≤_}
-use mathlib.Core.Path.{_≡_, refl, sym, ap, _∙_}
+use mathlib.Core.Path.{_≡_, sym, ap, _∙_}
 use mathlib.Core.Bool.{false, not}
 use mathlib.Core.List.{List, [], _∷_, _++_, append-assoc}
 use lib.ListN.{length, take, drop}
 use lib.Dec.{eqb}
 use borrow.Author.Tests.{eqb-true, not-false}
-use Rattle.findings.specs.Findings.{Finding, start, put, countAll, Sink, sink, Found, each}
-use Rattle.findings.proofs.Laws.{part, back, more-lent, found-as}
+use Rattle.findings.specs.Findings.{Finding, start, Sink, sink, Found, each}
+use Rattle.findings.proofs.Laws.{none, part, back, more-lent, found-as}
 use Rattle.book.specs.declared.Header.{Header}
 use Rattle.book.specs.declared.Places.{Places}
 use Rattle.book.specs.declared.KeyHead.{KeyHead}
@@ -52,8 +52,7 @@ keys-next s n p h fit e = rw e (step s n p h fit .keys)
 
 -- nothing is found, and nothing is written
 pub found-none : {o : Sink} {fs : List Finding} → fs ≡ [] → Found o fs 0 o
-unfolding put countAll
-found-none e = rw e (record { count = refl; buffer = refl; counts = refl })
+found-none {o} e = rw e (none o)
 
 -- the parts are the whole list
 pub list-of : (b : Book) → each (keyFindings b) 0 (b .keys) ++ acrossRules b ≡ findingsOf b

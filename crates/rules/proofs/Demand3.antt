@@ -1,13 +1,12 @@
 -- Demand 3 on the list of all rules: of their findings those of `snapshot_links` alone can be of a forest kind.
-use Prim.Native.Nat.{ℕ, _<_}
+use Prim.Native.Nat.{ℕ}
 use mathlib.Core.Bool.{Bool, true, false, true≢false, not, _&&_, _||_}
-use mathlib.Core.Logic.{_↔_, ⊎-elim}
-use mathlib.Core.List.{List, [], _∷_, _++_, List·Memᴰ·append-cases, Memᴰ·append-left, Memᴰ·append-right}
+use mathlib.Core.Logic.{_↔_}
+use mathlib.Core.List.{List, [], _∷_, _++_, Memᴰ·append-left, Memᴰ·append-right}
 use mathlib.Core.Option.{none}
 use mathlib.Core.Path.{_≡_, refl, ap, sym, _∙_}
-use native.Mathlib.Omega.{arith}
-use lib.Dec.{eqb, ltb}
-use borrow.Author.Tests.{eqb-true, ltb-true}
+use lib.Dec.{eqb}
+use borrow.Author.Tests.{eqb-true}
 use Rattle.findings.specs.Findings.{Finding, finding, each}
 use Rattle.pairs.specs.Pairs.{has}
 use Rattle.book.specs.Book.{Bkey, Book, parentsOf}
@@ -28,7 +27,7 @@ use Rattle.forest.proofs.Rules.{rootless}
 use Rattle.forest.proofs.Theorem.{forest}
 use Rattle.rules.specs.Rules.{keyFindings, findingsOf}
 use Rattle.rules.specs.Kinds.{Within, apart}
-use Rattle.rules.proofs.RuleKinds.{key-kinds, subvolume-kinds, claim-kinds, state-kinds, flag-kinds, child-kinds, link-kinds, gen-kinds, run-kinds}
+use Rattle.rules.proofs.RuleKinds.{key-kinds, subvolume-kinds, claim-kinds, state-kinds, flag-kinds, child-kinds, gen-kinds, run-kinds}
 
 -- a kind of a list that is apart from another is not in that
 apart-has : (x : ℕ) (ks ls : List ℕ) → apart ks ls ≡ true → has x ks ≡ true → has x ls ≡ false
@@ -69,10 +68,6 @@ links-alone b =
 pub demand-3 : (b : Book) → ForestBook b → Demand3 b (findingsOf b)
 demand-3 b F = forest b F (findingsOf b) (links-alone b)
 
--- and on every list that has a forest kind exactly where that has one
-pub demand-3-of : (b : Book) → ForestBook b → (fs : List Finding) → (Absent fs ↔ Absent (findingsOf b)) → Demand3 b fs
-demand-3-of b F fs same = forest b F fs ((λ a. links-alone b .0 (same .0 a)), (λ a. same .1 (links-alone b .1 a)))
-
 -- "In a forest book a snapshot without a root always gives kind 41 or 42, whatever its other words hold": it gives 41
 pub rootless-found : (b : Book) → ForestBook b → (s : Bkey) → s ∈ snapshots b → rootOf (parentsOf b) (s .offset) ≡ none → finding 41 (s .offset) (treeWord s) ∈ findingsOf b
 unfolding findingsOf
@@ -83,40 +78,3 @@ rootless-found b F s m e =
     (Memᴰ·append-right (snapshotStates b)
     (Memᴰ·append-right (snapshotSubvolFlags b)
     (Memᴰ·append-right (subvolumeChildren b) (Memᴰ·append-left (bucketGensAgainstAlloc b ++ freeSpace b) (rootless b F s m e)))))))
-
--- every kind is below 256, so that it is the first byte of its finding
-pub record Small (fs : List Finding) : Type 0 where
-  pub small : (f : Finding) → f ∈ fs → f .kind < 256
-
--- numbers that are all below 256
-below : List ℕ → Bool
-below [] = true
-below (k ∷ ks) = ltb k 256 && below ks
-
-below-has : (x : ℕ) (ks : List ℕ) → below ks ≡ true → has x ks ≡ true → x < 256
-unfolding below has
-below-has x [] a h = absurd (true≢false (sym h))
-below-has x (k ∷ ks) a h = go (eqb x k) (ltb k 256) refl refl a h (λ a h. below-has x ks a h)
-  where
-    go : (e l : Bool) → eqb x k ≡ e → ltb k 256 ≡ l → l && below ks ≡ true → e || has x ks ≡ true → (below ks ≡ true → has x ks ≡ true → x < 256) → x < 256
-    go e false q w a h ih = absurd (true≢false (sym a))
-    go true true q w a h ih = omega (arith, eqb-true x k q, ltb-true k 256 w)
-    go false true q w a h ih = ih a h
-
-small-by : (ks : List ℕ) (fs : List Finding) → below ks ≡ true → Within ks fs → Small fs
-small-by ks fs a w = record { small = λ f m. below-has (f .kind) ks a (w .kind f m) }
-
-both-small : (xs ys : List Finding) → Small xs → Small ys → Small (xs ++ ys)
-both-small xs ys h g = record { small = λ f m. ⊎-elim (h .small f) (g .small f) (List·Memᴰ·append-cases xs m) }
-
-pub all-small : (b : Book) → Small (findingsOf b)
-unfolding findingsOf below
-all-small b =
-    both-small (each (keyFindings b) 0 (b .keys)) _ (small-by _ _ refl (key-kinds b))
-    (both-small (subvolumeStates b) _ (small-by _ _ refl (subvolume-kinds b))
-    (both-small (snapshotClaims b) _ (small-by _ _ refl (claim-kinds b))
-    (both-small (snapshotStates b) _ (small-by _ _ refl (state-kinds b))
-    (both-small (snapshotSubvolFlags b) _ (small-by _ _ refl (flag-kinds b))
-    (both-small (subvolumeChildren b) _ (small-by _ _ refl (child-kinds b))
-    (both-small (snapshotLinks b) _ (small-by _ _ refl (link-kinds b))
-    (both-small (bucketGensAgainstAlloc b) (freeSpace b) (small-by _ _ refl (gen-kinds b)) (small-by _ _ refl (run-kinds b)))))))))

@@ -10,13 +10,14 @@ use lib.Dec.{eqb}
 use borrow.Author.Tests.{eq-eqb, ne-eqb}
 use Rattle.findings.specs.Findings.{Finding, finding, only, each, Added, bump, countAll, Sink, sink}
 use Rattle.findings.proofs.Counts.{bumps, bumps-once}
-use Rattle.findings.proofs.Laws.{added-nil, added-full, added-as, added-more}
+use Rattle.findings.proofs.Laws.{added-nil, added-full, added-as, added-more, encodable-one}
 use Rattle.findings.proofs.Walk.{each-any, each-append}
 use Rattle.pairs.specs.Pairs.{pair, pairAt, pairsOf, Sorted, countBelow}
 use Rattle.pairs.proofs.Order.{same-or-not, less-or-not}
 use Rattle.pairs.proofs.Bounds.{bound-before, bound-past}
 use Rattle.pairs.proofs.Words.{pair-first, pair-second, length-pairs, pairs-at, pairs-bound, in-order}
 use Rattle.walk.specs.Keys.{keyAt}
+use Rattle.walk.proofs.Keys.{offset-lt}
 use Rattle.subvolumes.specs.Steps.{GroupFrom, groupFindings}
 
 -- words of 64 bits
@@ -131,15 +132,15 @@ module _ {s w : List ℕ} {n kind group id from : ℕ} {o : Sink} {m : ℕ} (fit
     }
 
   -- where no finding fits any more, the buffer stays
-  shown-full : {i found : ℕ} {o₁ c₁ : List ℕ} → Shown s w n kind group id from o m i found (sink o₁ c₁) → length o₁ / 17 ≤ found → (d : ℕ) → i + d ≤ n
+  shown-full : kind < 2 ^ 8 → id < 2 ^ 64 → {i found : ℕ} {o₁ c₁ : List ℕ} → Shown s w n kind group id from o m i found (sink o₁ c₁) → length o₁ / 17 ≤ found → (d : ℕ) → i + d ≤ n
       → ((k : ℕ) → i ≤ k → k < i + d → getD w (2 * k) 0 ≡ group) → Shown s w n kind group id from o m (i + d) (found + d) (sink o₁ (bumps c₁ kind d))
   unfolding bumps countAll
-  shown-full {i} {found} t h zero l g = rw (add-zero i, add-zero found) t
-  shown-full {i} {found} t h (suc d) l g =
+  shown-full kl il {i} {found} t h zero l g = rw (add-zero i, add-zero found) t
+  shown-full kl il {i} {found} t h (suc d) l g =
       let at : i + suc d ≡ i + d + 1 = omega arith in
       let number : found + suc d ≡ found + d + 1 = omega arith in
-      let before = shown-full t h d (omega arith) (λ k a b. g k a (omega arith)) in
-      rw (at, number) (shown-more before (omega arith) (g (i + d) (omega arith) (omega arith)) refl (added-full (omega arith)))
+      let before = shown-full kl il t h d (omega arith) (λ k a b. g k a (omega arith)) in
+      rw (at, number) (shown-more before (omega arith) (g (i + d) (omega arith) (omega arith)) refl (added-full (omega arith) (encodable-one kl (offset-lt s _) il)))
 
   module _ {i found : ℕ} {o₁ : Sink} (t : Shown s w n kind group id from o m i found o₁) where
     -- where no pair from i on is of the group
@@ -167,10 +168,10 @@ module _ {s w : List ℕ} {n kind group id from : ℕ} {o : Sink} {m : ℕ} (fit
     shown-all h = shown-done (λ k a b. absurd (omega arith))
 
   -- the rest of the group is counted, where no finding fits any more
-  pub shown-rest : {i found e : ℕ} {o₁ c₁ c₂ : List ℕ} → Shown s w n kind group id from o m i found (sink o₁ c₁) → i < n → getD w (2 * i) 0 ≡ group
+  pub shown-rest : kind < 2 ^ 8 → id < 2 ^ 64 → {i found e : ℕ} {o₁ c₁ c₂ : List ℕ} → Shown s w n kind group id from o m i found (sink o₁ c₁) → i < n → getD w (2 * i) 0 ≡ group
       → length o₁ / 17 ≤ found → GroupFrom w n (group + 1) e → c₂ ≡ bump c₁ kind (e - i) → Done s w n kind group id from o m (found + (e - i)) (sink o₁ c₂)
-  shown-rest {i} {found} {e} {c₁ = c₁} t l g h next counted =
+  shown-rest kl il {i} {found} {e} {c₁ = c₁} t l g h next counted =
       let past = before-end w n group next l g in
       let own : (k : ℕ) → i ≤ k → k < i + (e - i) → getD w (2 * k) 0 ≡ group = λ k a b.
       omega (arith, next .below k (omega arith), t .start .above k (omega (arith, t .past)) (omega (arith, next .inside))) in
-      rw (counted, ← bumps-once c₁ kind (e - i) (omega arith)) (shown-done (shown-full t h (e - i) (omega (arith, next .inside)) own) (λ k a b. next .above k (omega arith) b))
+      rw (counted, ← bumps-once c₁ kind (e - i) (omega arith)) (shown-done (shown-full kl il t h (e - i) (omega (arith, next .inside)) own) (λ k a b. next .above k (omega arith) b))

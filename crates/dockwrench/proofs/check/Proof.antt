@@ -3,6 +3,7 @@ use mathlib.Core.Path.{sym, _∙_}
 use denote.Ref.{now}
 use Rattle.book.proofs.Walk.{opened, parse-accepted, parse-refused}
 use Rattle.dockwrench.specs.Answers.{checkOf, bufferAfter, workAfter, checkedAnswer}
+use Rattle.dockwrench.proofs.Demand3.{claim-refused}
 use borrow.Author.Needs.{needs}
 use native.Mathlib.Omega.{arith}
 use Rattle.dockwrench.proofs.check.Statement.{statement}
@@ -19,7 +20,7 @@ returns-2 : tie.Need-returns-2
 unfolding checkOf bufferAfter workAfter checkedAnswer
 returns-2 c =
     let e = parse-refused (now (c .before .before .before .before .before .before .before .args .book)) (sym (c .before .before .before .scan .ensures) ∙ c .before .s2 .given .1) in
-    (rw e, (rw e, (rw e, omega arith)))
+    (rw e, (rw e, (rw e, (omega arith, claim-refused e))))
 
 pub check-spec : {M : Type 1} → statement M
 check-spec =

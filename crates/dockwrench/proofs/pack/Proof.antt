@@ -1,5 +1,6 @@
 -- The three parts do not overlap.
 use Rattle.dockwrench.specs.Answers.{packed}
+use Rattle.dockwrench.proofs.Laws.{apart}
 use borrow.Author.Needs.{needs}
 use native.Mathlib.Omega.{arith}
 use Rattle.dockwrench.proofs.pack.Statement.{statement}
@@ -7,7 +8,7 @@ use Rattle.dockwrench.proofs.pack.Tie as tie
 
 returns : tie.Need-returns
 unfolding packed
-returns c = omega arith
+returns c = (omega arith, apart (omega arith) (omega arith) (omega arith) (omega arith))
 
 pub pack-spec : {M : Type 1} → statement M
 pack-spec =

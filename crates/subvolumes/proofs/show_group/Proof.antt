@@ -44,7 +44,7 @@ show-group-spec =
     (λ c. let b = c .before .before .before .before in omega (arith, past b, end b .inside, b .before .before .before .before .before .loop .inv .0 .number, b .before .before .before .before .before .before .before .before .before .before .pre))
     (λ c. search needs)
     (λ c. search (needs, added-counts (c .before .before .before .before .before .before .before .before .before .loop .inv .0 .added)))
-    (λ c. let b = c .before .before .before .before in shown-rest (λ k. b .before .before .before .before .before .before .before .before .shared-slice-known2 .given k .fits) (b .before .before .before .before .before .loop .inv .0) (b .before .before .before .before .loop-test .taken) (b .before .before .if1 .left) (omega (arith, b .before .if2 .taken, b .before .before .before .before .before .loop .inv .1)) (end b) (c .before .before .count .ensures))
+    (λ c. let b = c .before .before .before .before in shown-rest (λ k. b .before .before .before .before .before .before .before .before .shared-slice-known2 .given k .fits) (omega arith) (omega arith) (b .before .before .before .before .before .loop .inv .0) (b .before .before .before .before .loop-test .taken) (b .before .before .if1 .left) (omega (arith, b .before .if2 .taken, b .before .before .before .before .before .loop .inv .1)) (end b) (c .before .before .count .ensures))
     (λ c. search needs)
     (λ c. search needs)
     (λ c. search needs)
