@@ -1,2 +1,3 @@
 mod Laws
 pub mod Demand3
+pub mod Witness
