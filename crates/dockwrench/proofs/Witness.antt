@@ -2,7 +2,7 @@
 -- With the right depth word it is sound, and with another it is not, and the finding stands in the buffer.
 use Prim.Native.Nat.{ℕ}
 use mathlib.Core.Bool.{cond}
-use mathlib.Core.Path.{_≡_, refl, ap, _∙_}
+use mathlib.Core.Path.{_≡_, refl}
 use mathlib.Core.List.{List, [], _∷_, _++_}
 use lib.ListN.{length}
 use Rattle.bits.specs.Bits.{bit, bitsAt, beAt, leAt}
