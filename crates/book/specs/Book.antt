@@ -17,7 +17,7 @@ use Rattle.book.specs.declared.KeyHead.{KeyHead}
 abbrev pub headerSize : ℕ
 headerSize = 32
 
--- "layout 4 bits, trees mark 1, spare 11, version 16, first bucket 16, key count 16; device 64; bucket count 64;
+-- "layout 4 bits .. trees mark 1 .. spare 11, version 16, first bucket 16, key count 16; device 64; bucket count 64;
 -- counts of parents, subvolumes, gens, alloc, 16 each"
 unfoldable pub headerOf : List ℕ → Header
 headerOf s = record {

@@ -46,8 +46,8 @@ unfoldable pub firstOr : ℕ → List ℕ → ℕ
 firstOr d [] = d
 firstOr d (x ∷ xs) = x
 
--- 48 bucket_incorrectly_set_in_freespace_btree (named bucket, number not free): "names `start` whenever it is below the first bucket and
--- then counts one more", else the first bucket in use
+-- 48 bucket_incorrectly_set_in_freespace_btree (named bucket, number not free): where the run starts below the first bucket,
+-- its start is named, as in the Rust, and counts as one more; else the first bucket in use is named
 unfoldable pub setFindings : ℕ → ℕ → List ℕ → List Finding
 setFindings first start used =
     when (ltb start first || ltb 0 (length used))

@@ -26,7 +26,7 @@ liveSnapshot id k = hasSnapState k && (eqb (k .offset) id && eqb (snapState k) s
 unfoldable pub liveSubvolume : ℕ → Bkey → Bool
 liveSubvolume id k = (is 8 21 k && leb 44 (length (k .value))) && (eqb (k .offset) id && eqb (leAt (k .value) 40 4) subvolLive)
 
--- the four bytes after the kind in an accounting key's position, "accounting ids little-endian"
+-- the four bytes after the kind in an accounting key's position, little-endian (an error to fall into is "reading accounting ids big-endian")
 unfoldable pub accountedId : Bkey → ℕ
 accountedId k = leAt (bytesOf 8 (k .inode)) 1 4
 

@@ -1,3 +1,4 @@
 mod Laws
 mod Decode
 pub mod Demand3
+pub mod Witness

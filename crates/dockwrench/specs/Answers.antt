@@ -21,11 +21,11 @@ use Rattle.dockwrench.specs.declared.Availability.the-variants as availa
 
 -- THE MAIN CALL, by what the bytes are as a book
 
--- "9: work area short", "at least two per key"
+-- 9, "work area short": the words are "at least two per key"
 unfoldable pub workShort : Book → ℕ → Bool
 workShort b words = ltb words (2 * b .header .keys)
 
--- over a buffer of `room` bytes: "10: findings exceed the buffer", with the full count, or the count
+-- over a buffer of `room` bytes: 10, "findings exceed the buffer", with the full count, or the count
 unfoldable pub countIn : ℕ → ℕ → Checked
 countIn room count = cond (ltb room (17 * count)) (checked.NoRoom count) (checked.Found count)
 

@@ -50,7 +50,7 @@ abbrev lower : ℕ → ℕ → ℕ → Bkey
 lower tree depth skip = snapshot 2 1 0 tree depth skip
 
 -- a book of these, with tree record 1 of this root, and the parents as the snapshots have them
-book : ℕ → ℕ → ℕ → ℕ → ℕ → ℕ → Book
+unfoldable pub book : ℕ → ℕ → ℕ → ℕ → ℕ → ℕ → Book
 book parent child tree depth skip root = record {
   header = record {
     layout = 1;
@@ -89,7 +89,7 @@ Listed : Book → Bkey → Type 0
 Listed b s = (s .offset, parentWord s) ∈ parentsOf b
 
 -- each is a forest book, whatever the words
-forest-book : (parent child tree depth skip root : ℕ) → ForestBook (book parent child tree depth skip root)
+pub forest-book : (parent child tree depth skip root : ℕ) → ForestBook (book parent child tree depth skip root)
 unfolding book keysOf keep parentsOf leAt Named Listed
 forest-book parent child tree depth skip root =
     let b = book parent child tree depth skip root in
@@ -139,12 +139,24 @@ unfolding rows book leAt when only each keep has sort lookup insert insertAll co
 examples = refl
 
 -- the first has no findings, and so it is sound
-no-findings : findingsOf (book 0 2 1 1 1 1) ≡ []
+pub no-findings : findingsOf (book 0 2 1 1 1 1) ≡ []
 unfolding rows
 no-findings = ap (λ (xs : List (List Finding)). getD xs 0 []) examples
 
 absent : Absent (findingsOf (book 0 2 1 1 1 1))
 absent f m k = List·Memᴰ·not-nil (subst (λ (xs : List Finding). f ∈ xs) no-findings m)
 
-sound : Sound (book 0 2 1 1 1 1)
+pub sound : Sound (book 0 2 1 1 1 1)
 sound = demand-3 (book 0 2 1 1 1 1) (forest-book 0 2 1 1 1 1) .exact .0 absent
+
+-- the fourth, of another depth word, has one finding of a forest kind, and so it is not sound
+pub one-finding : findingsOf (book 0 2 1 0 1 1) ≡ finding 42 2 0 ∷ []
+unfolding rows
+one-finding = ap (λ (xs : List (List Finding)). getD xs 3 []) examples
+
+present : Absent (findingsOf (book 0 2 1 0 1 1)) → ⊥
+present a =
+    a (finding 42 2 0) (subst (λ (xs : List Finding). finding 42 2 0 ∈ xs) (sym one-finding) (List·Memᴰ·head refl)) (List·Memᴰ·tail (List·Memᴰ·tail (List·Memᴰ·head refl)))
+
+pub unsound : Sound (book 0 2 1 0 1 1) → ⊥
+unsound s = present (demand-3 (book 0 2 1 0 1 1) (forest-book 0 2 1 0 1 1) .exact .1 s)

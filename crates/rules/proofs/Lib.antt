@@ -1,5 +1,5 @@
 mod Buckets
 pub mod Demand3
-mod Examples
+pub mod Examples
 pub mod Rows
 pub mod RuleKinds

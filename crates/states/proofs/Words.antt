@@ -45,7 +45,7 @@ pad-by : (b : Bool) (x : ℕ) → not (eqb (cond b x 0) 0) ≡ b && not (eqb x 0
 pad-by true x = refl
 pad-by false x = refl
 
--- "below" is "not at least"
+-- below is not at least
 below-not : (a b : ℕ) → ltb b a ≡ not (leb a b)
 below-not a b = by-test (leb a b) refl
   where

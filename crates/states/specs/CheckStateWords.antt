@@ -17,7 +17,7 @@ stateRequired version = leb 1063 version
 unfoldable pub snapStateWord : List ℕ → ℕ
 snapStateWord value = cond (leb 60 (length value)) (leAt value 56 4) 0
 
--- "Snapshot values of 24 bytes or more: 0 nothing, 1 or 2 kind 23, more kind 24 from version 1,063 on":
+-- "Snapshot values of 24 bytes or more: 0 nothing, 1 or 2 kind 23, more kind 24 from version 1,063 (1.39) on":
 -- 23 snapshot_state_bitflip, 24 snapshot_state_bad
 unfoldable pub snapshotState : ℕ → ℕ → List ℕ → List Finding
 snapshotState version i value =

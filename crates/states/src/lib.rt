@@ -21,7 +21,7 @@ use findings::emit_if;
 pub struct Version(pub u16);
 
 // Version 1.39: from here on states must be set.
-const STATE_REQUIRED_FROM: u16 = 1063;
+const STATE_REQUIRED_FROM: Version = Version((1 << 10) | 39);
 
 // Where the state and pad words of values stand.
 pub const SUBVOL_STATE: usize = 40;
@@ -54,7 +54,7 @@ const SNAP_STATES: [u32; 4] = [SNAP_LIVE, SNAP_WILL_DELETE, SNAP_NO_KEYS, SNAP_D
 fn state_required(version: Version) -> bool
     ensures { λ r. ⌜ r ≡ stateRequired (version .0) ⌝ }
 {
-    STATE_REQUIRED_FROM <= version.0
+    STATE_REQUIRED_FROM.0 <= version.0
 }
 
 // How many bits of two words differ.
