@@ -24,21 +24,26 @@ use Rattle.forest.proofs.Roots.{linksUp, above-up}
 use Rattle.forest.proofs.Chains.{root-found, found-root, up-ancestor, ancestor-up}
 use Rattle.forest.proofs.Absent.{has-true, true-has, absent-append, absent-each, absent-when, absent-other, is-some, no-root, names-root, depth-right, zero-or, none-bad}
 
--- the forest kinds, by name
+-- the forest kinds, by name: the test finds each, wherever it stands
 in39 : 39 ∈ forestKinds
-in39 = List·Memᴰ·head refl
+unfolding has
+in39 = true-has 39 forestKinds refl
 
 in41 : 41 ∈ forestKinds
-in41 = List·Memᴰ·tail (List·Memᴰ·head refl)
+unfolding has
+in41 = true-has 41 forestKinds refl
 
 in42 : 42 ∈ forestKinds
-in42 = List·Memᴰ·tail (List·Memᴰ·tail (List·Memᴰ·head refl))
+unfolding has
+in42 = true-has 42 forestKinds refl
 
 in44 : 44 ∈ forestKinds
-in44 = List·Memᴰ·tail (List·Memᴰ·tail (List·Memᴰ·tail (List·Memᴰ·head refl)))
+unfolding has
+in44 = true-has 44 forestKinds refl
 
 in45 : 45 ∈ forestKinds
-in45 = List·Memᴰ·tail (List·Memᴰ·tail (List·Memᴰ·tail (List·Memᴰ·tail (List·Memᴰ·head refl))))
+unfolding has
+in45 = true-has 45 forestKinds refl
 
 -- kinds 31 and 40 are no forest kinds
 master-absent : (m : List (ℕ × ℕ)) (id w : ℕ) (o : Option ℕ) → Absent (masterFindings m id w o)

@@ -557,10 +557,10 @@ pub fn snapshot_links(
     ensures found { λ r. ⌜ Found (sink (now (out .entry)) (now (counts .entry))) (snapshotLinks (bookOf (now (book .entry)))) r (sink (now (out .exit)) (now (counts .exit))) ⌝ }
     ensures few { λ r. ⌜ r ≤ h .keys * 8 ⌝ }
 {
-    if h.trees {
-        let n = put_links(book, h, at, work);
-        sorting::sort_pairs(work, n);
-        return show_all(book, h, at, work, n, out, counts);
+    if !h.trees {
+        return 0;
     }
-    0
+    let n = put_links(book, h, at, work);
+    sorting::sort_pairs(work, n);
+    show_all(book, h, at, work, n, out, counts)
 }

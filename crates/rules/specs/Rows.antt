@@ -44,6 +44,14 @@ subvolume word = key 8 21 0 1 (zeros 40 ++ (word % 256 ∷ word / 2 ^ 8 % 256 �
 unfoldable pub stateKinds : ℕ → ℕ → List ℕ
 stateKinds version word = kinds (checkStateWords version 0 (subvolume word))
 
+-- an alloc_v4 key with this value, and the kinds that it gives
+unfoldable pub allocV4Kinds : List ℕ → List ℕ
+allocV4Kinds value = kinds (checkKeyFields 0 (key 4 27 0 1 value))
+
+-- 48 bytes with start field 0 and one backpointer, in bits 8 to 13 of the flags at 8
+unfoldable pub onePointer : List ℕ
+onePointer = zeros 9 ++ (1 ∷ zeros 38)
+
 -- an accounting key of replicas (2) with data type 1, two devices, one required and these two; it has one counter
 unfoldable pub replicas : ℕ → ℕ → Bkey
 replicas a b = key 20 34 ((((((2 * 256 + 1) * 256 + 2) * 256 + 1) * 256 + a) * 256 + b) * 2 ^ 16) 0 (zeros 8)
@@ -95,14 +103,20 @@ rows =
     -- "0x4ad54479 † nothing at 1,062, 25 at 1,063"
     ∷ row (stateKinds 1062 0x4ad54479) []
     ∷ row (stateKinds 1063 0x4ad54479) (25 ∷ [])
-    -- "0x4ad54441 † six bits"
+    -- "0x4ad54441 † six bits", and so "3 to 6 kind 25 from 1,063"
     ∷ row (stateDistance 0x4ad54441 subvolStates ∷ []) (6 ∷ [])
+    ∷ row (stateKinds 1062 0x4ad54441) []
+    ∷ row (stateKinds 1063 0x4ad54441) (25 ∷ [])
     -- "0x4ad54401 † 27"
     ∷ row (stateKinds 1062 0x4ad54401) (27 ∷ [])
     ∷ row (stateKinds 1063 0x4ad54401) (27 ∷ [])
-    -- "Alloc_v4 of 47 bytes † needs 48; 48 bytes with start field 0 and one backpointer † needs 80"
+    -- "Alloc_v4 of 47 bytes † needs 48; 48 bytes with start field 0 and one backpointer † needs 80", and so both give 12 and not with the bytes they need
     ∷ row (allocV4Bytes (zeros 47) ∷ []) (48 ∷ [])
-    ∷ row (allocV4Bytes (zeros 9 ++ (1 ∷ zeros 38)) ∷ []) (80 ∷ [])
+    ∷ row (allocV4Kinds (zeros 47)) (12 ∷ [])
+    ∷ row (allocV4Kinds (zeros 48)) []
+    ∷ row (allocV4Bytes onePointer ∷ []) (80 ∷ [])
+    ∷ row (allocV4Kinds onePointer) (12 ∷ [])
+    ∷ row (allocV4Kinds (onePointer ++ zeros 32)) []
     -- "Replicas on devices 3, 3 † kind 7"
     ∷ row (kinds (checkKeyFields 0 (replicas 3 3))) (7 ∷ [])
     -- "Chains of 1,024 links † root, 1,025 † none"

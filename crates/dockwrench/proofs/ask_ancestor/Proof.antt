@@ -9,7 +9,9 @@ use Rattle.dockwrench.proofs.ask_ancestor.Tie as tie
 
 returns : tie.Need-returns
 unfolding ancestorOf
-returns c = rw (parse-accepted (now (c .before .before .before .before .before .before .args .book)) (opened _ (sym (c .before .before .before .before .scan .ensures) ∙ c .before .before .s .given .1) .accepted)) (c .root-above .ensures)
+returns c =
+    let arm = c .before .before in
+    rw (parse-accepted (now (arm .before .before .before .before .args .book)) (opened _ (sym (arm .before .before .scan .ensures) ∙ arm .s .given .1) .accepted)) (c .root-above .ensures)
 
 returns-2 : tie.Need-returns-2
 unfolding ancestorOf
@@ -21,7 +23,6 @@ ask-ancestor-spec =
     (tie.spec
     (λ c κs. search needs)
     (λ c. search needs)
-    (λ c κs. opened _ (sym (c .before .before .before .scan .ensures) ∙ c .before .s .given .1))
-    (λ c. search needs)
+    (λ c κs. opened _ (sym (c .before .before .before .scan .ensures) ∙ c .before .s .given .1)) (λ c. search needs)
     returns
     returns-2)

@@ -10,9 +10,10 @@ use Rattle.dockwrench.proofs.check.Statement.{statement}
 use Rattle.dockwrench.proofs.check.Tie as tie
 
 returns : tie.Need-returns
-unfolding checkOf bufferAfter workAfter
+unfolding checkOf bufferAfter workAfter checkedAnswer
 returns c =
-    let e = parse-accepted (now (c .before .before .before .before .before .before .before .before .before .before .before .before .before .before .args .book)) (opened _ (sym (c .before .before .before .before .before .before .before .before .before .before .scan .ensures) ∙ c .before .before .before .before .before .before .before .before .s .given .1) .accepted) in
+    let arm = c .before .before .before .before .before .before .before .before in
+    let e = parse-accepted (now (arm .before .before .before .before .before .before .args .book)) (opened _ (sym (arm .before .before .scan .ensures) ∙ arm .s .given .1) .accepted) in
     let r = c .before .before .before .before .check-book .ensures in
     (rw e (r .0), (rw e (r .1 .0), (rw e (r .1 .1 .0), r .1 .1 .1)))
 
@@ -28,9 +29,6 @@ check-spec =
     (tie.spec
     (λ c κs. search needs)
     (λ c. search needs)
-    (λ c κs. opened _ (sym (c .before .before .before .before .before .scan .ensures) ∙ c .before .before .before .s .given .1))
-    (λ c. search needs)
-    (λ c. search needs)
-    (λ c. search needs)
+    (λ c κs. opened _ (sym (c .before .before .before .before .before .scan .ensures) ∙ c .before .before .before .s .given .1)) (λ c. search needs) (λ c. search needs) (λ c. search needs)
     returns
     returns-2)

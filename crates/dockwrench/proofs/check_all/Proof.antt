@@ -1,4 +1,5 @@
--- All rules, then every word zero.
+-- All rules are judged.
+-- Then every word is zero.
 use denote.Ref.{now}
 use lib.ListN.{length}
 use Rattle.dockwrench.proofs.Laws.{zeros-as}
@@ -15,10 +16,4 @@ returns c =
 pub check-all-spec : {M : Type 1} → statement M
 check-all-spec =
     tie.close
-    (tie.spec
-    (λ c κs. search needs)
-    (λ c κs. search needs)
-    (λ c. search needs)
-    (λ c. search needs)
-    (λ c. search needs)
-    returns)
+    (tie.spec (λ c κs. search needs) (λ c κs. search needs) (λ c. search needs) (λ c. search needs) (λ c. search needs) returns)
