@@ -1,5 +1,5 @@
 /* Hands books to the three entries at the limits of what they promise, and writes each answer with what became of the two areas lent. */
-#include "dockwrench.h"
+#include "writing.h"
 
 #include <inttypes.h>
 #include <stdio.h>
@@ -13,8 +13,6 @@
 #define BEYOND 64 /* bytes and words past what is lent at most: no call may write there */
 #define FILL 0xa5
 
-static uint8_t book[DOCKWRENCH_BOOK_MAX + 1];
-static size_t end; /* of what is written in the book */
 static uint8_t findings[ROOM + BEYOND];
 static uint64_t work[WORDS + BEYOND];
 
@@ -23,16 +21,6 @@ static uint64_t work[WORDS + BEYOND];
 static void put16(uint8_t *at, unsigned value) {
     at[0] = (uint8_t)(value >> 8);
     at[1] = (uint8_t)value;
-}
-
-static void be(int bytes, uint64_t value) {
-    for (int i = bytes - 1; i >= 0; i--)
-        book[end++] = (uint8_t)(value >> 8 * i);
-}
-
-static void le32(uint32_t value) {
-    for (int i = 0; i < 4; i++)
-        book[end++] = (uint8_t)(value >> 8 * i);
 }
 
 /* A header of version 1,062 for a device 0 without buckets; all after it is zero. */

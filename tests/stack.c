@@ -5,7 +5,7 @@
  * DOCKWRENCH_STACK of include/dockwrench.h, the exit status is 1.
  */
 #define _POSIX_C_SOURCE 200809L
-#include "dockwrench.h"
+#include "writing.h"
 
 #include <pthread.h>
 #include <stdio.h>
@@ -16,8 +16,7 @@
 #define KEYS 37448 /* without values, in the longest book */
 #define FILL 0xa5
 
-static uint8_t book[DOCKWRENCH_BOOK_MAX], findings[DOCKWRENCH_FINDING_BYTES];
-static size_t end; /* of what is written in the book */
+static uint8_t findings[DOCKWRENCH_FINDING_BYTES];
 static uint64_t work[2 * KEYS];
 static _Alignas(4096) uint8_t stack[1 << 18];
 static uintptr_t top; /* where the stack of a call starts */
@@ -64,16 +63,6 @@ static void measure(void) {
 }
 
 /* ---- the books */
-
-static void be(int bytes, uint64_t value) {
-    for (int i = bytes - 1; i >= 0; i--)
-        book[end++] = (uint8_t)(value >> 8 * i);
-}
-
-static void le32(uint32_t value) {
-    for (int i = 0; i < 4; i++)
-        book[end++] = (uint8_t)(value >> 8 * i);
-}
 
 /* A header of version 1,063 with the trees mark, for device 0 and 2^40 buckets. */
 static void header(unsigned key_count, unsigned parents) {
