@@ -4,7 +4,7 @@
 # Lines that are many are held to those that `holes` writes, and told by the first two, the last and their number.
 cd "$(dirname "$0")/.." || exit 1
 listing=target/bin/listing
-made=target/tests/listing
+made=target/tests/listing_edges
 mkdir -p "$made"
 
 # between RUNS VALUE: from bucket 1 on, so many runs of size 0 a bucket apart, then a key that no rule reads, with a value of so many bytes
