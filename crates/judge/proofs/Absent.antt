@@ -11,15 +11,15 @@ use Rattle.book.specs.Book.{Bkey, Book, is}
 use Rattle.walk.specs.Keys.{anyKey}
 use Rattle.maps.specs.Maps.{mapOf}
 use Rattle.subvolumes.specs.SubvolumeStates.{hasSubvolState, unavailable, subvolumeFindings, subvolumeStates}
-use Rattle.subvolumes.specs.SnapshotClaims.{claims, claimed, claimFindings, counts, snapshotClaims}
+use Rattle.claims.specs.SnapshotClaims.{claims, claimed, claimFindings, counts, snapshotClaims}
 use Rattle.deletions.specs.SnapshotStates.{hasSnapState, snapshotStateFindings, snapshotStates}
 use Rattle.snapshots.specs.Words.{word, holds, subvolumeWord, masterWord, rootWord, idOf}
 use Rattle.snapshots.specs.SnapshotSubvolFlags.{flagIsWrong, flagFindings, snapshotSubvolFlags}
-use Rattle.snapshots.specs.SubvolumeChildren.{hasFsParent, fsParents, wrongEntry, subvolumeChildren}
+use Rattle.children.specs.SubvolumeChildren.{hasFsParent, fsParents, wrongEntry, subvolumeChildren}
 use Rattle.links.specs.SnapshotLinks.{treeMap, linkFindings, snapshotLinks}
 use Rattle.buckets.specs.BucketGensAgainstAlloc.{isGens, gensOfKey, bucketGensAgainstAlloc}
-use Rattle.judge.specs.declared.Present.{Present}
-use Rattle.judge.specs.Present.{hasBtree, withBtree, presentWith, presentIn}
+use Rattle.keys.specs.declared.Present.{Present}
+use Rattle.keys.specs.Present.{hasBtree, withBtree, presentWith, presentIn}
 use Rattle.judge.specs.Steps.{subvolumeRules, snapshotRules}
 
 -- ---- what is found at keys of one btree

@@ -13,10 +13,10 @@ use Rattle.book.specs.Book.{Bkey, Book, parentsOf}
 use Rattle.parents.specs.Roots.{rootOf}
 use Rattle.snapshots.specs.Words.{treeWord}
 use Rattle.subvolumes.specs.SubvolumeStates.{subvolumeStates}
-use Rattle.subvolumes.specs.SnapshotClaims.{snapshotClaims}
+use Rattle.claims.specs.SnapshotClaims.{snapshotClaims}
 use Rattle.deletions.specs.SnapshotStates.{snapshotStates}
 use Rattle.snapshots.specs.SnapshotSubvolFlags.{snapshotSubvolFlags}
-use Rattle.snapshots.specs.SubvolumeChildren.{subvolumeChildren}
+use Rattle.children.specs.SubvolumeChildren.{subvolumeChildren}
 use Rattle.links.specs.SnapshotLinks.{snapshotLinks}
 use Rattle.buckets.specs.BucketGensAgainstAlloc.{bucketGensAgainstAlloc}
 use Rattle.buckets.specs.FreeSpace.{freeSpace}
@@ -25,7 +25,8 @@ use Rattle.forest.specs.Forest.{snapshots, ForestBook, forestKinds, Absent, Dem
 use Rattle.forest.proofs.Absent.{absent-append, absent-kinds}
 use Rattle.forest.proofs.Rules.{rootless}
 use Rattle.forest.proofs.Theorem.{forest}
-use Rattle.rules.specs.Rules.{keyFindings, findingsOf}
+use Rattle.keys.specs.KeyFindings.{keyFindings}
+use Rattle.rules.specs.Rules.{findingsOf}
 use Rattle.rules.specs.Kinds.{Within, apart}
 use Rattle.rules.proofs.RuleKinds.{key-kinds, subvolume-kinds, claim-kinds, state-kinds, flag-kinds, child-kinds, gen-kinds, run-kinds}
 

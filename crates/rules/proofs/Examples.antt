@@ -15,19 +15,20 @@ use Rattle.fields.specs.CheckKeyFields.{hasRow, sizeZero, snapshotZero, minimum
 use Rattle.states.specs.StateDistance.{bitsApart, stateDistance, snapStates}
 use Rattle.states.specs.CheckStateWords.{stateRequired, snapStateWord, snapshotState, checkStateWords}
 use Rattle.subvolumes.specs.SubvolumeStates.{hasSubvolState, unavailable, subvolumeStates}
-use Rattle.subvolumes.specs.SnapshotClaims.{claims, claimed, counts, claimFindings, snapshotClaims}
+use Rattle.claims.specs.SnapshotClaims.{claims, claimed, counts, claimFindings, snapshotClaims}
 use Rattle.deletions.specs.SnapshotStates.{hasSnapState, snapshotStates}
 use Rattle.maps.specs.Maps.{mapOf}
 use Rattle.parents.specs.Roots.{oneMore, rootVia, rootWithin, rootOf, followedVia, followed, above}
 use Rattle.snapshots.specs.Words.{holds, parentWord, idOf}
 use Rattle.snapshots.specs.SnapshotSubvolFlags.{flagged, flagIsWrong, flagFindings, snapshotSubvolFlags}
-use Rattle.snapshots.specs.SubvolumeChildren.{hasFsParent, fsParents, subvolumeChildren}
+use Rattle.children.specs.SubvolumeChildren.{hasFsParent, fsParents, subvolumeChildren}
 use Rattle.links.specs.SnapshotLinks.{treeMap, treeOfMap, isThe, isOther, masterFindings, treeFindings, namesRoot, wrongDepth, badChild, badSkip, rootFindings, backrefFindings, childFindings, skipFindings, linkFindings, snapshotLinks}
 use Rattle.buckets.specs.BucketGensAgainstAlloc.{isGens, bucketGensAgainstAlloc}
 use Rattle.buckets.specs.FreeSpace.{heldRuns, gaps, freeSpace}
 use Rattle.forest.specs.Lists.{_∈_}
 use Rattle.forest.specs.Forest.{keysOf, snapshots, WellFormed, ForestBook, Sound, Absent}
-use Rattle.rules.specs.Rules.{keyFindings, findingsOf}
+use Rattle.keys.specs.KeyFindings.{keyFindings}
+use Rattle.rules.specs.Rules.{findingsOf}
 use Rattle.rules.proofs.Demand3.{demand-3}
 
 -- a 32-bit word below 256, in bytes, before the rest

@@ -13,15 +13,16 @@ use Rattle.fields.specs.CheckKeyDevice.{checkKeyDevice}
 use Rattle.fields.specs.CheckKeyFields.{checkKeyFields, checkAccountingKey, checkInodeV3Word, checkSnapshotPad, checkAllocV4Value, checkPosition}
 use Rattle.states.specs.CheckStateWords.{checkStateWords, snapshotState, subvolumeState, subvolumeWord}
 use Rattle.subvolumes.specs.SubvolumeStates.{subvolumeStates, subvolumeFindings}
-use Rattle.subvolumes.specs.SnapshotClaims.{snapshotClaims, claimFindings}
+use Rattle.claims.specs.SnapshotClaims.{snapshotClaims, claimFindings}
 use Rattle.deletions.specs.SnapshotStates.{snapshotStates, snapshotStateFindings}
 use Rattle.snapshots.specs.SnapshotSubvolFlags.{snapshotSubvolFlags, flagFindings}
-use Rattle.snapshots.specs.SubvolumeChildren.{subvolumeChildren, missingEntry, wrongEntry}
+use Rattle.children.specs.SubvolumeChildren.{subvolumeChildren, missingEntry, wrongEntry}
 use Rattle.links.specs.SnapshotLinks.{snapshotLinks, treeFindings, masterFindings, linkFindings, rootFindings, backrefFindings, childFindings, skipFindings}
 use Rattle.buckets.specs.BucketGensAgainstAlloc.{bucketGensAgainstAlloc, gensOfKey, genAt, uncovered}
 use Rattle.buckets.specs.FreeSpace.{freeSpace, runFindings, setFindings, isFree, gapFindings}
 use Rattle.forest.specs.Lists.{_∈_}
-use Rattle.rules.specs.Rules.{keyFindings, findingsOf}
+use Rattle.keys.specs.KeyFindings.{keyFindings}
+use Rattle.rules.specs.Rules.{findingsOf}
 use Rattle.rules.specs.Kinds.{Within, Kinds, keyKinds, linkKinds, kindsOf, listOf}
 
 module _ {ks : List ℕ} where

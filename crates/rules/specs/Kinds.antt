@@ -7,15 +7,15 @@ use Rattle.findings.specs.Findings.{Finding, each}
 use Rattle.pairs.specs.Pairs.{has}
 use Rattle.book.specs.Book.{Book}
 use Rattle.subvolumes.specs.SubvolumeStates.{subvolumeStates}
-use Rattle.subvolumes.specs.SnapshotClaims.{snapshotClaims}
+use Rattle.claims.specs.SnapshotClaims.{snapshotClaims}
 use Rattle.deletions.specs.SnapshotStates.{snapshotStates}
 use Rattle.snapshots.specs.SnapshotSubvolFlags.{snapshotSubvolFlags}
-use Rattle.snapshots.specs.SubvolumeChildren.{subvolumeChildren}
+use Rattle.children.specs.SubvolumeChildren.{subvolumeChildren}
 use Rattle.links.specs.SnapshotLinks.{snapshotLinks}
 use Rattle.buckets.specs.BucketGensAgainstAlloc.{bucketGensAgainstAlloc}
 use Rattle.buckets.specs.FreeSpace.{freeSpace}
 use Rattle.forest.specs.Lists.{_∈_}
-use Rattle.rules.specs.Rules.{keyFindings}
+use Rattle.keys.specs.KeyFindings.{keyFindings}
 
 -- every finding is of one of these kinds
 pub record Within (kinds : List ℕ) (fs : List Finding) : Type 0 where

@@ -84,7 +84,7 @@ fn judge_gone(bytes: &[u8], h: Header, at: Places, out: &mut [u8], work: &mut [u
     let mut counts = [0u64; 0];
     let n = subvolumes::subvolume_states(bytes, h, at, out, &mut counts, work);
     lines::show_findings(out, n);
-    let n = subvolumes::snapshot_claims(bytes, h, at, out, &mut counts, work);
+    let n = claims::snapshot_claims(bytes, h, at, out, &mut counts, work);
     lines::show_findings(out, n);
     let n = deletions::snapshot_states(bytes, h, at, out, &mut counts, work);
     lines::show_findings(out, n);
@@ -105,7 +105,7 @@ fn judge_snapshots(bytes: &[u8], h: Header, at: Places, out: &mut [u8], work: &m
     let mut counts = [0u64; 0];
     let n = snapshots::snapshot_subvol_flags(bytes, h, at, out, &mut counts);
     lines::show_findings(out, n);
-    let n = snapshots::subvolume_children(bytes, h, at, out, &mut counts, work);
+    let n = children::subvolume_children(bytes, h, at, out, &mut counts, work);
     lines::show_findings(out, n);
 }
 

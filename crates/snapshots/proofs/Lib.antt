@@ -1,2 +1,1 @@
 mod Flags
-mod Children

@@ -1,4 +1,2 @@
 pub mod Words
 pub mod SnapshotSubvolFlags
-pub mod SubvolumeChildren
-pub mod Steps

@@ -1,5 +1,3 @@
-mod Claims
-mod Counts
 mod Groups
 mod Members
 mod States

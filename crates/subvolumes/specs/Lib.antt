@@ -1,3 +1,2 @@
 pub mod SubvolumeStates
-pub mod SnapshotClaims
 pub mod Steps

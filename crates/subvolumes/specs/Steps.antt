@@ -2,7 +2,7 @@
 use Prim.Native.Nat.{ℕ, _+_, _*_, _/_, _%_, _^_, _≤_, _<_}
 use mathlib.Core.Path.{_≡_}
 use mathlib.Core.Bool.{Bool, cond, _&&_, _||_}
-use mathlib.Core.List.{List, [], _∷_, _++_, map}
+use mathlib.Core.List.{List, [], _∷_, _++_}
 use lib.ListN.{length, getD}
 use lib.Dec.{eqb, leb}
 use Rattle.bits.specs.Bits.{leAt}
@@ -12,22 +12,6 @@ use Rattle.book.specs.Book.{Bkey, is}
 use Rattle.walk.specs.Keys.{keyAt}
 use Rattle.states.specs.StateDistance.{subvolDeleted}
 use Rattle.subvolumes.specs.SubvolumeStates.{isLiveSnapshot, unavailable, subvolState}
-use Rattle.subvolumes.specs.SnapshotClaims.{claims}
-
--- the pair that a claimant gives: the snapshot that it claims, and 0
-unfoldable pub claimPair : ℕ → Bkey → List ℕ
-claimPair p k = cond (claims k) (pair (leAt (k .value) 4 4) 0 ∷ []) []
-
--- the first words of the first n pairs
-abbrev pub firsts : List ℕ → ℕ → List ℕ
-firsts w n = map (λ x. x / 2 ^ 64) (pairsOf w n)
-
--- of the first n pairs those from i on have the first word of pair i, up to pair e, which has another
-pub record RunEnd (w : List ℕ) (n i e : ℕ) : Type 0 where
-  pub past : i < e
-  pub inside : e ≤ n
-  pub same : (k : ℕ) → i ≤ k → k < e → getD w (2 * k) 0 ≡ getD w (2 * i) 0
-  pub ends : e < n → getD w (2 * e) 0 ≡ getD w (2 * i) 0 → ⊥
 
 -- a tree record (btree 15, type 31)
 unfoldable pub isTree : Bkey → Bool

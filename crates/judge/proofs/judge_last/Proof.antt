@@ -1,7 +1,7 @@
 -- The rules from `snapshot_links` on, one after the other.
 use Rattle.book.proofs.Walk.{few-keys}
 use Rattle.judge.specs.Steps.{lastRules}
-use Rattle.judge.proofs.Laws.{three-lent}
+use Rattle.keys.proofs.Laws.{three-lent}
 use borrow.Author.Needs.{needs}
 use native.Mathlib.Omega.{arith}
 use Rattle.judge.proofs.judge_last.Statement.{statement}

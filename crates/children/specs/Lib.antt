@@ -1,0 +1,2 @@
+pub mod SubvolumeChildren
+pub mod Steps

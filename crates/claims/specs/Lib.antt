@@ -1,0 +1,2 @@
+pub mod SnapshotClaims
+pub mod Steps

@@ -1,0 +1,3 @@
+pub mod KeyFindings
+pub mod Present
+pub mod Steps
