@@ -16,7 +16,7 @@
 #include <stdlib.h>
 #include <string.h>
 
-/* The kinds: a name, and what a finding means, where @ stands for its subject and # for its object. */
+/* The kinds: a name, and what a finding means, where @ stands for its subject, # for its object and $ for the state that its object is the word of. */
 static const struct {
     const char *name, *meaning;
 } kinds[] = {
@@ -44,11 +44,11 @@ static const struct {
     {"backpointer_level_bad", "key number @ is a backpointer with a level above 4"},
     {"xattr_val_size_too_small", "key number @ is an extended attribute whose name and value do not fit into its bytes"},
     {"bkey_invalid_type_for_btree", "key number @ has a type that its btree cannot hold"},
-    {"snapshot_state_bitflip", "the state of the snapshot at key number @ is a known one but for one or two bits"},
+    {"snapshot_state_bitflip", "the state of the snapshot at key number @ is $ but for one or two bits"},
     {"snapshot_state_bad", "the state of the snapshot at key number @ is missing, or differs from every known one by more than two bits"},
     {"subvol_state_bad",
      "the state of the subvolume at key number @ is missing or 0, or differs from the nearest known one by three to six bits"},
-    {"subvol_state_bitflip", "the state of the subvolume at key number @ is a known one but for one or two bits"},
+    {"subvol_state_bitflip", "the state of the subvolume at key number @ is $ but for one or two bits"},
     {"subvol_state_invalid", "the state of the subvolume at key number @ differs from every known one by more than six bits"},
     {"subvol_pad_nonzero", "the subvolume at key number @ has bits set in its reserved word"},
     {"root_subvol_missing", "subvolume @, the root, is unlinked or deleted"},
@@ -81,6 +81,22 @@ static const struct {
      "buckets @ to #, the last not included, have no alloc key, and no free run holds them"},
 };
 _Static_assert(sizeof kinds / sizeof *kinds == 51, "a name and a meaning for each of the kinds 1 to 50");
+
+/* The state words of snapshots and of subvolumes; no word is in both. */
+static const struct {
+    uint32_t word;
+    const char *name;
+} states[] = {
+    {0x757c47a2, "live"}, {0x3316a8d2, "will_delete"}, {0x372b5a01, "no_keys"}, {0x7cd4a225, "deleted"},
+    {0x4ad5447e, "live"}, {0x2d358e8f, "unlinked"},    {0x3c6b2d4c, "deleted"},
+};
+
+static const char *state_name(uint64_t word) {
+    for (size_t i = 0; i < sizeof states / sizeof *states; i++)
+        if (states[i].word == word)
+            return states[i].name;
+    return "unknown";
+}
 
 static const char *const refusals[] = {
     NULL,
@@ -124,6 +140,8 @@ static void explain(const uint8_t *finding) {
             printf("%" PRIu64, dockwrench_subject(finding));
         else if (*at == '#')
             printf("%" PRIu64, dockwrench_object(finding));
+        else if (*at == '$')
+            fputs(state_name(dockwrench_object(finding)), stdout);
         else
             putchar(*at);
     putchar('\n');

@@ -80,7 +80,7 @@ static inline size_t dockwrench_words(const uint8_t *book, size_t bytes) {
 /* Whether the trees mark is set: the chains of snapshots are judged only then. 0 for bytes too few for a header. */
 static inline int dockwrench_trees(const uint8_t *book, size_t bytes) { return bytes < 32 ? 0 : book[0] >> 3 & 1; }
 
-/* A finding taken apart, from its first byte. */
+/* A finding taken apart, from its first byte. Of kinds 23 and 26 the object is a state word: that of the known state that is nearest to the key's. */
 static inline uint64_t dockwrench_word(const uint8_t *at) {
     uint64_t word = 0;
     for (int i = 0; i < 8; i++)

@@ -3,6 +3,7 @@ use crate::books::{self, Mode};
 use crate::expected::Expected;
 use crate::library::{self, Areas, FINDING_BYTES};
 use crate::shrink;
+use crate::states;
 use std::sync::atomic::{AtomicBool, Ordering};
 
 /// How often each kind and each number of an answer was reached.
@@ -12,19 +13,22 @@ pub struct Counts {
     pub accepted: u64,
     /// By kind, 1 to 50: in how many books it was found.
     pub kinds: [u64; 51],
+    /// By state, in the order of `states::NAMES`: in how many books it was named.
+    pub states: [u64; 7],
     /// By number, 0 to 11: how many answers of the main call and of the ancestor question had it.
     pub numbers: [u64; 12],
 }
 
 impl Counts {
     pub fn new() -> Counts {
-        Counts { books: 0, accepted: 0, kinds: [0; 51], numbers: [0; 12] }
+        Counts { books: 0, accepted: 0, kinds: [0; 51], states: [0; 7], numbers: [0; 12] }
     }
 
     pub fn add(&mut self, other: &Counts) {
         self.books += other.books;
         self.accepted += other.accepted;
         self.kinds.iter_mut().zip(other.kinds).for_each(|(a, b)| *a += b);
+        self.states.iter_mut().zip(other.states).for_each(|(a, b)| *a += b);
         self.numbers.iter_mut().zip(other.numbers).for_each(|(a, b)| *a += b);
     }
 
@@ -34,13 +38,17 @@ impl Counts {
         let mut seen = [false; 51];
         expected.findings().iter().for_each(|f| seen[usize::from(f.kind)] = true);
         self.kinds.iter_mut().zip(seen).for_each(|(count, is_seen)| *count += u64::from(is_seen));
+        let mut named = [false; 7];
+        expected.findings().iter().filter_map(states::named).for_each(|state| named[state] = true);
+        self.states.iter_mut().zip(named).for_each(|(count, is_named)| *count += u64::from(is_named));
     }
 
-    /// The kinds and numbers that no book reached.
+    /// The kinds, states and numbers that no book reached.
     pub fn missing(&self) -> Vec<String> {
         let kinds = (1..=50).filter(|&k| self.kinds[k] == 0).map(|k| format!("kind {k}"));
         let numbers = (0..=11).filter(|&n| self.numbers[n] == 0).map(|n| format!("answer {n}"));
-        kinds.chain(numbers).collect()
+        let states = states::NAMES.iter().zip(self.states).filter(|(_, count)| *count == 0).map(|((_, name), _)| format!("state {name}"));
+        kinds.chain(states).chain(numbers).collect()
     }
 }
 

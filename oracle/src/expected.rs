@@ -2,6 +2,7 @@
 use crate::layout::{Book, Refusal};
 use crate::library::{After, Answer, FINDING_BYTES};
 use crate::published::{Finding, Maps};
+use crate::states;
 use std::collections::BTreeSet;
 
 const NOT_ENOUGH_WORK: u8 = 9;
@@ -47,7 +48,9 @@ impl Expected {
             Ok(book) => {
                 let maps = Box::new(Maps::of(&book));
                 let said = maps.judge();
-                Expected::Accepted { maps, keys: book.keys.len(), findings: said.findings(), unavailable: said.unavailable }
+                let mut findings = said.findings();
+                name_states(&book, &mut findings);
+                Expected::Accepted { maps, keys: book.keys.len(), findings, unavailable: said.unavailable }
             }
         }
     }
@@ -112,6 +115,16 @@ impl Expected {
         match self {
             Expected::Refused(refusal) => refused(*refusal),
             Expected::Accepted { unavailable, .. } => Answer { number: 0, place: 0, count: u32::from(unavailable.contains(&id)) },
+        }
+    }
+}
+
+/// Puts in the state words that two kinds have as object, and the published program does not print.
+fn name_states(book: &Book, findings: &mut [Finding]) {
+    for finding in findings {
+        let key = usize::try_from(finding.subject).ok().and_then(|at| book.keys.get(at));
+        if let Some(state) = key.and_then(|key| states::object(finding.kind, key)) {
+            finding.object = state;
         }
     }
 }

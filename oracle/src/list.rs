@@ -3,6 +3,8 @@ use crate::books::{self, Mode};
 use crate::compare::{lengths, Counts};
 use crate::expected::Expected;
 use crate::library::Answer;
+use crate::published::Finding;
+use crate::states;
 use crate::text::hex;
 use std::fmt::Write;
 use std::fs;
@@ -45,15 +47,15 @@ pub fn write(folder: &Path) -> io::Result<Vec<String>> {
     Ok(counts.missing().into_iter().filter(|m| m != "answer 1").collect())
 }
 
-/// Mixed books of another seed for the kinds that no book has yet.
+/// Mixed books of another seed for the kinds and states that no book has yet.
 fn rarest(counts: &mut Counts, input: &mut String, output: &mut String) {
-    let title = "# mixed books for kinds that are in none of the books above\n";
+    let title = "# mixed books for kinds, and states that kinds name, that are in none of the books above\n";
     input.push_str(title);
     output.push_str(title);
     for index in 0..100_000 {
         let bytes = books::book(Mode::Mixed, SEED + 1, index);
-        let is_new = |kind: u8| counts.kinds[usize::from(kind)] == 0;
-        if Expected::of(&bytes).findings().iter().any(|f| is_new(f.kind)) {
+        let is_new = |f: &Finding| counts.kinds[usize::from(f.kind)] == 0 || states::named(f).is_some_and(|state| counts.states[state] == 0);
+        if Expected::of(&bytes).findings().iter().any(is_new) {
             line(index, &bytes, counts, input, output);
         }
     }

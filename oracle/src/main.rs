@@ -11,6 +11,7 @@ mod published;
 mod selftest;
 mod shrink;
 mod speed;
+mod states;
 mod text;
 mod texts;
 
@@ -52,8 +53,8 @@ fn main() -> ExitCode {
     }
 }
 
-/// Compares books of one mode or of all. A run over all modes has its share of long books, and fails also where a kind or
-/// an answer is never reached.
+/// Compares books of one mode or of all. A run over all modes has its share of long books, and fails also where a kind, a
+/// state that a kind names or an answer is never reached.
 fn run(args: &[&str]) -> Option<bool> {
     let mode = args.first().copied().unwrap_or("all");
     let modes = if mode == "all" { Mode::ALL.to_vec() } else { vec![Mode::from_name(mode)?] };
@@ -89,6 +90,9 @@ fn show(counts: &Counts) {
         let line: Vec<String> = line.iter().enumerate().map(|(k, n)| format!("{}: {n}", 10 * i + k + 1)).collect();
         println!("  {}", line.join("  "));
     }
+    println!("books in which each state was named, by kind 23 or 26:");
+    let line: Vec<String> = states::NAMES.iter().zip(counts.states).map(|((_, name), n)| format!("{name}: {n}")).collect();
+    println!("  {}", line.join("  "));
     println!("answers of the main call and of the ancestor question with each number:");
     let line: Vec<String> = counts.numbers.iter().enumerate().map(|(k, n)| format!("{k}: {n}")).collect();
     println!("  {}", line.join("  "));

@@ -12,7 +12,7 @@ use Rattle.book.specs.Maps.{lookup, insert, insertAll, collect}
 use Rattle.book.specs.Book.{Bkey, Book, is, parentsOf}
 use Rattle.fields.specs.CheckKeyDevice.{elsewhere, checkKeyDevice}
 use Rattle.fields.specs.CheckKeyFields.{hasRow, sizeZero, snapshotZero, minimumValue, checkSnapshotPad, badId, foreignType, checkPosition, checkKeyFields}
-use Rattle.states.specs.StateDistance.{bitsApart, stateDistance, snapStates}
+use Rattle.states.specs.StateDistance.{bitsApart, nearer, stateDistance, snapStates}
 use Rattle.states.specs.CheckStateWords.{stateRequired, snapStateWord, snapshotState, checkStateWords}
 use Rattle.subvolumes.specs.SubvolumeStates.{hasSubvolState, unavailable, subvolumeStates}
 use Rattle.claims.specs.SnapshotClaims.{claims, claimed, counts, claimFindings, snapshotClaims}
@@ -136,7 +136,7 @@ rows =
     []
 
 examples : map (λ (r : Row). findingsOf (r .0)) rows ≡ map (λ (r : Row). r .1) rows
-unfolding rows book leAt when only each keep has sort lookup insert insertAll collect is parentsOf elsewhere checkKeyDevice hasRow sizeZero snapshotZero minimumValue checkSnapshotPad badId foreignType checkPosition checkKeyFields bitsApart stateDistance snapStates stateRequired snapStateWord snapshotState checkStateWords hasSubvolState unavailable subvolumeStates claims claimed counts claimFindings snapshotClaims hasSnapState snapshotStates mapOf oneMore rootVia rootWithin rootOf followedVia followed above holds idOf flagged flagIsWrong flagFindings snapshotSubvolFlags hasFsParent fsParents subvolumeChildren treeMap treeOfMap isThe isOther masterFindings treeFindings namesRoot wrongDepth badChild badSkip rootFindings backrefFindings childFindings skipFindings linkFindings snapshotLinks isGens bucketGensAgainstAlloc heldRuns gaps freeSpace keyFindings findingsOf
+unfolding rows book leAt when only each keep has sort lookup insert insertAll collect is parentsOf elsewhere checkKeyDevice hasRow sizeZero snapshotZero minimumValue checkSnapshotPad badId foreignType checkPosition checkKeyFields bitsApart nearer stateDistance snapStates stateRequired snapStateWord snapshotState checkStateWords hasSubvolState unavailable subvolumeStates claims claimed counts claimFindings snapshotClaims hasSnapState snapshotStates mapOf oneMore rootVia rootWithin rootOf followedVia followed above holds idOf flagged flagIsWrong flagFindings snapshotSubvolFlags hasFsParent fsParents subvolumeChildren treeMap treeOfMap isThe isOther masterFindings treeFindings namesRoot wrongDepth badChild badSkip rootFindings backrefFindings childFindings skipFindings linkFindings snapshotLinks isGens bucketGensAgainstAlloc heldRuns gaps freeSpace keyFindings findingsOf
 examples = refl
 
 -- the first has no findings, and so it is sound

@@ -11,7 +11,7 @@ use Rattle.pairs.specs.Pairs.{pair, insert, sort}
 use Rattle.book.specs.Maps.{lookup}
 use Rattle.book.specs.Book.{is}
 use Rattle.fields.specs.CheckKeyFields.{hasRow, sizeZero, snapshotZero, minimumValue, accountingPositionBytes, accountingKind, replicasEnd, accountingFields, someNonzero, someNotRising, replicasEntryRefused, countersBad, checkAccountingKey, backpointersStart, allocV4Bytes, checkAllocV4Value, accountingJunk, foreignType, checkPosition, checkKeyFields}
-use Rattle.states.specs.StateDistance.{bitsApart, stateDistance, subvolStates}
+use Rattle.states.specs.StateDistance.{bitsApart, nearer, stateDistance, subvolStates}
 use Rattle.states.specs.CheckStateWords.{stateRequired, subvolStateUnset, subvolumeWord, subvolumeState, checkStateWords}
 use Rattle.parents.specs.Roots.{oneMore, rootVia, rootWithin, rootOf}
 use Rattle.parents.proofs.Links.{link, link-to, root-more, root-full, root-here}
@@ -52,5 +52,5 @@ one-link-more = ap numbers (line-none 1026 1025 1024 (omega arith) (omega arith)
 
 -- THE THEOREM: every row gives what is said
 pub rows-hold : map (λ (r : Row). r .given) rows ≡ map (λ (r : Row). r .said) rows
-unfolding rows leAt when only each bytesOf pair insert sort lookup is hasRow sizeZero snapshotZero minimumValue accountingPositionBytes accountingKind replicasEnd accountingFields someNonzero someNotRising replicasEntryRefused countersBad checkAccountingKey backpointersStart allocV4Bytes checkAllocV4Value accountingJunk foreignType checkPosition checkKeyFields bitsApart stateDistance subvolStates stateRequired subvolStateUnset subvolumeWord subvolumeState checkStateWords oneMore rootVia rootWithin rootOf noRun isFree allocRange usedBuckets firstOr setFindings runFindings heldRuns gaps gapFindings freeSpace kinds numbers subvolume stateKinds allocV4Kinds onePointer replicas hole flat
+unfolding rows leAt when only each bytesOf pair insert sort lookup is hasRow sizeZero snapshotZero minimumValue accountingPositionBytes accountingKind replicasEnd accountingFields someNonzero someNotRising replicasEntryRefused countersBad checkAccountingKey backpointersStart allocV4Bytes checkAllocV4Value accountingJunk foreignType checkPosition checkKeyFields bitsApart nearer stateDistance subvolStates stateRequired subvolStateUnset subvolumeWord subvolumeState checkStateWords oneMore rootVia rootWithin rootOf noRun isFree allocRange usedBuckets firstOr setFindings runFindings heldRuns gaps gapFindings freeSpace kinds numbers subvolume stateKinds allocV4Kinds onePointer replicas hole flat
 rows-hold = rw (most-links, one-link-more)

@@ -104,7 +104,7 @@ rows =
     ∷ row (stateKinds 1062 0x4ad54479) []
     ∷ row (stateKinds 1063 0x4ad54479) (25 ∷ [])
     -- "0x4ad54441 † six bits", and so "3 to 6 kind 25 from 1,063"
-    ∷ row (stateDistance 0x4ad54441 subvolStates ∷ []) (6 ∷ [])
+    ∷ row (stateDistance 0x4ad54441 subvolStates .distance ∷ []) (6 ∷ [])
     ∷ row (stateKinds 1062 0x4ad54441) []
     ∷ row (stateKinds 1063 0x4ad54441) (25 ∷ [])
     -- "0x4ad54401 † 27"

@@ -1,5 +1,5 @@
--- The number of bits set in an exclusive or is the distance of its two words; the least distance over a list.
-use Prim.Native.Nat.{ℕ, zero, suc, _+_, _/_, _%_, _^_, _<_, _≤_, min}
+-- The number of bits set in an exclusive or is the distance of its two words; the nearest state over a list.
+use Prim.Native.Nat.{ℕ, zero, suc, _+_, _/_, _%_, _^_, _<_, _≤_}
 use mathlib.Core.Path.{_≡_, refl, sym, ap, ap₂, _∙_}
 use mathlib.Core.Bool.{cond}
 use mathlib.Core.List.{List, [], _∷_}
@@ -11,7 +11,7 @@ use lib.Pow.{pow-pos, mod-pow-add}
 use lib.Bits.{bitXor, xor-shr, xor-mod, xor-lt}
 use lib.Count.{ones, ones-cat}
 use Rattle.findings.proofs.Walk.{drop-at, drop-past}
-use Rattle.states.specs.StateDistance.{bitsApart, distance, stateDistance}
+use Rattle.states.specs.StateDistance.{bitsApart, distance, nearer, stateDistance}
 
 -- two digits
 digits-apart : (a b : ℕ) → a < 2 → b < 2 → ones (bitXor a b) ≡ cond (eqb a b) 0 1
@@ -40,20 +40,14 @@ low-apart (suc n) x y =
 pub ones-apart : (x y : ℕ) → x < 2 ^ 32 → y < 2 ^ 32 → ones (bitXor x y) ≡ distance x y
 ones-apart x y h k = ap ones (sym (mod-eq-of-lt (xor-lt 32 x y h k))) ∙ low-apart 32 x y
 
--- ---- the least distance over any list of states
-
--- it is at most 32
-pub distance-le : (word : ℕ) (states : List ℕ) → stateDistance word states ≤ 32
-unfolding stateDistance
-distance-le word [] = omega arith
-distance-le word (state ∷ states) = omega (arith, distance-le word states)
+-- ---- the nearest state of any list
 
 -- over the states from the i-th on
 pub distance-next : (word : ℕ) (states : List ℕ) (i : ℕ) → i < length states
-    → stateDistance word (drop i states) ≡ min (distance word (getD states i 0)) (stateDistance word (drop (i + 1) states))
+    → stateDistance word (drop i states) ≡ nearer (record { distance = distance word (getD states i 0); state = getD states i 0 }) (stateDistance word (drop (i + 1) states))
 unfolding stateDistance
 distance-next word states i h = rw (drop-at states i 0 h)
 
-pub distance-none : (word : ℕ) (states : List ℕ) (i : ℕ) → length states ≤ i → stateDistance word (drop i states) ≡ 32
+pub distance-none : (word : ℕ) (states : List ℕ) (i : ℕ) → length states ≤ i → stateDistance word (drop i states) ≡ record { distance = 32; state = 0 }
 unfolding stateDistance
 distance-none word states i h = rw (drop-past states i h)

@@ -10,22 +10,23 @@ use borrow.Author.Tests.{le-ltb, lt-ltb, leb-true, leb-false, eqb-true, ne-eqb}
 use Rattle.bits.specs.Bits.{leAt}
 use Rattle.findings.specs.Findings.{finding, when, only}
 use Rattle.book.specs.Book.{Bkey, is}
+use Rattle.states.specs.declared.Nearest.{Nearest}
 use Rattle.states.specs.StateDistance.{stateDistance, snapStates, subvolStates}
 use Rattle.states.specs.Steps.{wordOrZero}
 use Rattle.walk.proofs.Sets.{both-true}
 use Rattle.states.specs.CheckStateWords.{stateRequired, snapStateWord, snapshotState, subvolStateUnset, subvolumeWord, subvolumeState, checkStateWords}
 
--- a snapshot's findings, from its word, the distance and the version's test
-pub snapshot-findings : (version i : ℕ) (value : List ℕ) {w d : ℕ} {required : Bool} → w ≡ wordOrZero value 56 → d ≡ stateDistance w snapStates → required ≡ stateRequired version
-    → when (ltb 0 d && leb d 2) (finding 23 i 0) ++ when (ltb 2 d && required) (finding 24 i 0) ≡ snapshotState version i value
+-- a snapshot's findings, from its word, the nearest state and the version's test
+pub snapshot-findings : (version i : ℕ) (value : List ℕ) {w : ℕ} {n : Nearest} {required : Bool} → w ≡ wordOrZero value 56 → n ≡ stateDistance w snapStates → required ≡ stateRequired version
+    → when (ltb 0 (n .distance) && leb (n .distance) 2) (finding 23 i (n .state)) ++ when (ltb 2 (n .distance) && required) (finding 24 i 0) ≡ snapshotState version i value
 unfolding snapshotState snapStateWord wordOrZero
-snapshot-findings version i value w d r = rw (d, w, r)
+snapshot-findings version i value w n r = rw (n, w, r)
 
 -- a word's findings, likewise
-pub word-findings : (version i word : ℕ) {d : ℕ} {required : Bool} → d ≡ stateDistance word subvolStates → required ≡ stateRequired version → (word ≡ 0 → ⊥)
-    → when (ltb 0 d && leb d 2) (finding 26 i 0) ++ (when (ltb 6 d) (finding 27 i 0) ++ when ((ltb 2 d && leb d 6) && required) (finding 25 i 0)) ≡ subvolumeWord version i word
+pub word-findings : (version i word : ℕ) {n : Nearest} {required : Bool} → n ≡ stateDistance word subvolStates → required ≡ stateRequired version → (word ≡ 0 → ⊥)
+    → when (ltb 0 (n .distance) && leb (n .distance) 2) (finding 26 i (n .state)) ++ (when (ltb 6 (n .distance)) (finding 27 i 0) ++ when ((ltb 2 (n .distance) && leb (n .distance) 6) && required) (finding 25 i 0)) ≡ subvolumeWord version i word
 unfolding subvolumeWord only
-word-findings version i word d r set = rw (d, r, ne-eqb word 0 set)
+word-findings version i word n r set = rw (n, r, ne-eqb word 0 set)
 
 pub no-word : (version i : ℕ) → [] ≡ subvolumeWord version i 0
 unfolding subvolumeWord only

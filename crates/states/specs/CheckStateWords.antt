@@ -1,4 +1,5 @@
--- The rule `check_state_words` (document 01, "Leaves: words and runs", kinds 23 to 28). Subject is the key's index, object 0.
+-- The rule `check_state_words` (document 01, "Leaves: words and runs", kinds 23 to 28). Subject is the key's index; object is 0, but kinds 23 and 26 "carry
+-- that state word as object" (document 02, ticket 1): the nearest state's.
 use Prim.Native.Nat.{ℕ}
 use mathlib.Core.Bool.{Bool, cond, not, _&&_, _||_}
 use mathlib.Core.List.{List, _++_}
@@ -21,8 +22,9 @@ snapStateWord value = cond (leb 60 (length value)) (leAt value 56 4) 0
 -- 23 snapshot_state_bitflip, 24 snapshot_state_bad
 unfoldable pub snapshotState : ℕ → ℕ → List ℕ → List Finding
 snapshotState version i value =
-    let d = stateDistance (snapStateWord value) snapStates in
-    when (ltb 0 d && leb d 2) (finding 23 i 0) ++ when (ltb 2 d && stateRequired version) (finding 24 i 0)
+    let nearest = stateDistance (snapStateWord value) snapStates in
+    let d = nearest .distance in
+    when (ltb 0 d && leb d 2) (finding 23 i (nearest .state)) ++ when (ltb 2 d && stateRequired version) (finding 24 i 0)
 
 -- "from 1,063, values of 16 bytes or more without a state or with 0 give 25"
 unfoldable pub subvolStateUnset : List ℕ → Bool
@@ -32,9 +34,10 @@ subvolStateUnset value = leb 16 (length value) && (ltb (length value) 44 || eqb 
 -- 26 subvol_state_bitflip, 27 subvol_state_invalid, 25 subvol_state_bad
 unfoldable pub subvolumeWord : ℕ → ℕ → ℕ → List Finding
 subvolumeWord version i word =
-    let d = stateDistance word subvolStates in
+    let nearest = stateDistance word subvolStates in
+    let d = nearest .distance in
     only (not (eqb word 0))
-    (when (ltb 0 d && leb d 2) (finding 26 i 0)
+    (when (ltb 0 d && leb d 2) (finding 26 i (nearest .state))
     ++ (when (ltb 6 d) (finding 27 i 0) ++ when ((ltb 2 d && leb d 6) && stateRequired version) (finding 25 i 0)))
 
 -- 25 for an unset state, then what the state word at 40 gives, then 28 subvol_pad_nonzero for the pad word at 44

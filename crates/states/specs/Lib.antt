@@ -1,3 +1,4 @@
 pub mod StateDistance
+pub mod NeverAToss
 pub mod CheckStateWords
 pub mod Steps

@@ -1,8 +1,10 @@
--- "State distance is the least number of differing bits to a listed state word."
-use Prim.Native.Nat.{ℕ, zero, suc, _+_, _/_, _%_, _^_, min}
+-- "State distance is the least number of differing bits to a listed state word" (document 01); it gives "the distance and the nearest state, the first
+-- listed of equals" (document 02, ticket 1).
+use Prim.Native.Nat.{ℕ, zero, suc, _+_, _/_, _%_, _^_}
 use mathlib.Core.Bool.{cond}
 use mathlib.Core.List.{List, [], _∷_}
-use lib.Dec.{eqb}
+use lib.Dec.{eqb, leb}
+use Rattle.states.specs.declared.Nearest.{Nearest}
 
 -- how many of the low n bits of x and y differ
 unfoldable pub bitsApart : ℕ → ℕ → ℕ → ℕ
@@ -13,10 +15,14 @@ bitsApart (suc n) x y = bitsApart n x y + cond (eqb (x / 2 ^ n % 2) (y / 2 ^ n %
 abbrev pub distance : ℕ → ℕ → ℕ
 distance x y = bitsApart 32 x y
 
--- the least distance to a listed word; 32 for an empty list
-unfoldable pub stateDistance : ℕ → List ℕ → ℕ
-stateDistance word [] = 32
-stateDistance word (state ∷ states) = min (distance word state) (stateDistance word states)
+-- the nearer of two, "the first .. of equals"
+unfoldable pub nearer : Nearest → Nearest → Nearest
+nearer x y = cond (leb (x .distance) (y .distance)) x y
+
+-- the nearest listed state, and the distance to it; 0 and 32 for an empty list
+unfoldable pub stateDistance : ℕ → List ℕ → Nearest
+stateDistance word [] = record { distance = 32; state = 0 }
+stateDistance word (state ∷ states) = nearer (record { distance = distance word state; state = state }) (stateDistance word states)
 
 -- the state words of snapshots: live, will_delete, no_keys, deleted
 abbrev pub snapLive : ℕ

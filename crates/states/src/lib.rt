@@ -4,7 +4,7 @@ ghost use mathlib.Core.Bool.{_&&_};
 ghost use Prim.Native.Nat.{_+_, _^_, _<_, _≤_};
 ghost use Rattle.findings.specs.Findings.{sink, finding, when, Found, Added};
 ghost use Rattle.book.specs.Book.{bkey};
-ghost use Rattle.states.specs.StateDistance.{distance, stateDistance};
+ghost use Rattle.states.specs.StateDistance.{distance, nearer, stateDistance};
 ghost use Rattle.states.specs.Steps.{wordOrZero};
 ghost use Rattle.states.specs.CheckStateWords.{
   stateRequired,
@@ -64,20 +64,38 @@ pub fn bits_apart(x: u32, y: u32) -> u32
     u32::count_ones(x ^ y)
 }
 
-// The bits that a word is from the nearest of these states; 32 where there is none.
-pub fn state_distance(word: u32, states: &[u32]) -> u32
+// A state word, and how many bits a word is from it.
+pub struct Nearest {
+    pub distance: u32,
+    pub state: u32,
+}
+
+// The nearer of two, the first of equals.
+fn nearer(a: Nearest, b: Nearest) -> Nearest
+    ensures { λ r. ⌜ r ≡ nearer a b ⌝ }
+{
+    if a.distance <= b.distance {
+        return a;
+    }
+    b
+}
+
+// The nearest of these states to a word, the first listed of equals, and the bits that it is away; 32 and 0 where there is none.
+pub fn state_distance(word: u32, states: &[u32]) -> Nearest
     ensures { λ r. ⌜ r ≡ stateDistance word (now (states .entry)) ⌝ }
 {
-    let mut least: u32 = 32;
-    let mut i: usize = 0;
-    while i < states.len() {
-        let d = bits_apart(word, states[i]);
-        if d < least {
-            least = d;
-        }
-        i += 1;
+    let mut nearest = Nearest {
+        distance: 32,
+        state: 0,
+    };
+    let mut i = states.len();
+    while 0 < i {
+        i -= 1;
+        let state = states[i];
+        let distance = bits_apart(word, state);
+        nearest = nearer(Nearest { distance, state }, nearest);
     }
-    least
+    nearest
 }
 
 // The word at byte `at` of a value, or 0 where the value ends before it does.
@@ -105,9 +123,11 @@ fn check_snapshot_state(
     ensures few { λ r. ⌜ r ≤ n + 2 ⌝ }
 {
     let word = word_or_zero(value, SNAP_STATE);
-    let d = state_distance(word, &SNAP_STATES);
+    let nearest = state_distance(word, &SNAP_STATES);
+    let d = nearest.distance;
+    let state = nearest.state as u64;
     let required = state_required(version);
-    let n = emit_if(out, counts, n, (0 < d) & (d <= 2), 23, i, 0);
+    let n = emit_if(out, counts, n, (0 < d) & (d <= 2), 23, i, state);
     emit_if(out, counts, n, (2 < d) & required, 24, i, 0)
 }
 
@@ -151,9 +171,11 @@ fn check_subvolume_word(
     ensures few { λ r. ⌜ r ≤ n + 3 ⌝ }
 {
     if word != 0 {
-        let d = state_distance(word, &SUBVOL_STATES);
+        let near = state_distance(word, &SUBVOL_STATES);
+        let d = near.distance;
+        let state = near.state as u64;
         let required = state_required(version);
-        let n = emit_if(out, counts, n, (0 < d) & (d <= 2), 26, i, 0);
+        let n = emit_if(out, counts, n, (0 < d) & (d <= 2), 26, i, state);
         let n = emit_if(out, counts, n, 6 < d, 27, i, 0);
         return emit_if(out, counts, n, ((2 < d) & (d <= 6)) & required, 25, i, 0);
     }

@@ -11,7 +11,7 @@ returns : tie.Need-returns
 unfolding snapStates
 returns c = (
   added-as
-      (snapshot-findings _ _ _ (c .before .before .before .before .before .before .before .before .before .before .before .before .before .before .before .before .before .word-or-zero .ensures) (c .before .before .before .before .before .before .before .before .before .before .before .before .before .before .before .state-distance .ensures) (c .before .before .before .before .before .before .before .before .before .before .before .before .before .before .state-required .ensures))
+      (snapshot-findings _ _ _ (c .before .before .before .before .before .before .before .before .before .before .before .before .before .before .before .before .before .before .word-or-zero .ensures) (c .before .before .before .before .before .before .before .before .before .before .before .before .before .before .before .before .state-distance .ensures) (c .before .before .before .before .before .before .before .before .before .before .before .before .before .before .state-required .ensures))
       (added-more (c .before .before .before .before .before .before .before .before .before .before .before .emit-if .ensures .0) (c .before .before .before .before .emit-if2 .ensures .0)),
   omega arith,
 )
@@ -23,6 +23,7 @@ check-snapshot-state-spec =
     (λ c κs. search rule)
     (λ c. search rule)
     (λ c κs. search rule)
+    (λ c. search rule)
     (λ c κs. search rule)
     (λ c κs. search rule)
     (λ c κs. search rule)

@@ -13,7 +13,7 @@ returns : tie.Need-returns
 unfolding subvolStates
 returns c = (
   added-as
-      (word-findings _ _ _ (c .before .before .before .before .before .before .before .before .before .before .before .before .before .before .before .before .before .before .before .before .before .before .state-distance .ensures) (c .before .before .before .before .before .before .before .before .before .before .before .before .before .before .before .before .before .before .before .before .before .state-required .ensures) (c .before .before .before .before .before .before .before .before .before .before .before .before .before .before .before .before .before .before .before .before .before .before .before .before .if1 .taken))
+      (word-findings _ _ _ (c .before .before .before .before .before .before .before .before .before .before .before .before .before .before .before .before .before .before .before .before .before .before .before .state-distance .ensures) (c .before .before .before .before .before .before .before .before .before .before .before .before .before .before .before .before .before .before .before .before .before .state-required .ensures) (c .before .before .before .before .before .before .before .before .before .before .before .before .before .before .before .before .before .before .before .before .before .before .before .before .before .if1 .taken))
       (added-more (c .before .before .before .before .before .before .before .before .before .before .before .before .before .before .before .before .before .before .emit-if .ensures .0) (added-more (c .before .before .before .before .before .before .before .before .before .before .before .emit-if2 .ensures .0) (c .before .before .before .before .emit-if3 .ensures .0))),
   omega arith,
 )
@@ -27,6 +27,7 @@ check-subvolume-word-spec =
     (tie.spec
     (λ c. search rule)
     (λ c κs. search rule)
+    (λ c. search rule)
     (λ c κs. search rule)
     (λ c κs. search rule)
     (λ c κs. search rule)
