@@ -3,3 +3,5 @@ mod Covers
 mod Ranges
 mod Runs
 mod Gaps
+mod Marks
+mod Gens

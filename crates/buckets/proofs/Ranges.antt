@@ -121,6 +121,16 @@ module _ {s : List ℕ} {h : Header} {at : Places} (o : Opened s h at) {a e : �
   unfolding rangeOf
   range-entries = rw (parts o .alloc, is) (range-table s order (h .alloc) (at .alloc) (parts o .alloc-rise))
 
+  pub range-numbered : allocRange a e (bookOf s .alloc) ≡ allocFrom s (q .count) (at .alloc + q .low * 10)
+  unfolding rangeOf
+  range-numbered = rw (parts o .alloc, is) (range-table s order (h .alloc) (at .alloc) (parts o .alloc-rise))
+
+  pub range-few : q .low + q .count ≤ h .alloc
+  unfolding rangeOf
+  range-few =
+      let xs = allocFrom s (h .alloc) (at .alloc) in
+      rw is (omega (arith, bound-inside e xs, bound-grows order xs, length-table dataType allocTable s (h .alloc) (at .alloc)))
+
   pub range-inside : q .start + q .count * 10 ≤ length s
   unfolding rangeOf
   range-inside =

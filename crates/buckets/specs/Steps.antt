@@ -1,5 +1,6 @@
 -- What only contracts of private functions cite.
-use Prim.Native.Nat.{ℕ, _+_, _-_, _*_, _/_, _%_, _^_, _≤_, _<_, max}
+use Prim.Native.Nat.{ℕ, _+_, _-_, _*_, _/_, _%_, _^_, _≤_, _<_, min, max}
+use mathlib.Core.Path.{_≡_}
 use mathlib.Core.Bool.{Bool, false, cond, not, _&&_, _||_}
 use mathlib.Core.List.{List, [], _∷_, _++_}
 use mathlib.Core.Option.{Option}
@@ -13,11 +14,19 @@ use Rattle.book.specs.declared.AllocEntry.{AllocEntry}
 use Rattle.book.specs.declared.MaybeU8.{MaybeU8}
 use Rattle.book.specs.declared.MaybeU8.the-variants.{Is, Absent}
 use Rattle.book.specs.Maps.{lowerBound}
-use Rattle.book.specs.Book.{Bkey, Book}
+use Rattle.book.specs.Book.{Bkey, Book, allocFrom}
 use Rattle.buckets.specs.declared.Range.{Range}
 use Rattle.buckets.specs.declared.Used.{Used}
 use Rattle.buckets.specs.BucketGensAgainstAlloc.{isGens, gensOfKey}
 use Rattle.buckets.specs.FreeSpace.{isRun, runStart, noRun, usedBuckets, firstOr, allocRange, gapFindings}
+
+-- what a recorded generation gives, by the one that is expected
+abbrev pub genOf : ℕ → ℕ → ℕ → List Finding
+genOf bucket recorded expected = when (not (eqb recorded expected)) (finding 46 bucket recorded)
+
+-- what a generation gives, by whether a key covers its bucket
+abbrev pub uncoveredOf : Bool → ℕ → ℕ → List Finding
+uncoveredOf covers bucket generation = when (not (eqb generation 0) && not covers) (finding 46 bucket generation)
 
 -- what a key gives, where it is a bucket_gens key of the device
 abbrev pub keyGens : ℕ → List (ℕ × ℕ) → Bkey → List Finding
@@ -45,7 +54,7 @@ heldPair h k = cond (not (noRunOf h k)) (pair (max (k .offset - k .size) (h .«f
 
 -- where the entries of an alloc table at byte p stand that are for the buckets from a up to e
 unfoldable pub rangeOf : ℕ → List (ℕ × Option ℕ) → ℕ → ℕ → Range
-rangeOf p alloc a e = record { start = p + lowerBound a alloc * 10; count = lowerBound e alloc - lowerBound a alloc }
+rangeOf p alloc a e = record { start = p + lowerBound a alloc * 10; low = lowerBound a alloc; count = lowerBound e alloc - lowerBound a alloc }
 
 -- `inUse` and `isFree` by the enum
 unfoldable pub inUseOf : MaybeU8 → Bool
@@ -63,6 +72,16 @@ usedOf d xs = record { count = length (usedBuckets xs); first = firstOr d (usedB
 -- the same with one entry more in front
 unfoldable pub usedWith : AllocEntry → Used → Used
 usedWith e u = cond (inUseOf (e .«data_type»)) (record { count = u .count + 1; first = e .bucket }) u
+
+-- those of the entries from number i on of the `count` at byte p
+abbrev pub usedFrom : List ℕ → ℕ → ℕ → ℕ → Used
+usedFrom s p count i = usedOf 0 (allocFrom s (count - i) (p + i * 10))
+
+-- each pair of words of a list is, for its number k, the number and the first bucket in use from entry 256 * k on
+unfoldable pub Marked : List ℕ → ℕ → ℕ → List ℕ → Type 0
+Marked s p count m =
+    (k : ℕ) → 2 * k + 2 ≤ length m
+    → (getD m (2 * k) 0 ≡ usedFrom s p count (min (k * 256) count) .count) × (getD m (2 * k + 1) 0 ≡ usedFrom s p count (min (k * 256) count) .first)
 
 -- every bucket is below e
 unfoldable pub Below : ℕ → List (ℕ × Option ℕ) → Type 0

@@ -3,20 +3,20 @@ ghost use mathlib.Core.Path.{_≡_};
 ghost use mathlib.Core.Bool.{cond};
 ghost use mathlib.Core.List.{_++_};
 ghost use Prim.Native.Nat.{_+_, _-_, _*_, _^_, _<_, _≤_, min, max};
-ghost use lib.ListN.{length, take};
+ghost use lib.ListN.{length, take, set};
 ghost use Rattle.findings.specs.Findings.{sink, Found, Added, only, each};
-ghost use Rattle.pairs.specs.Pairs.{pairsOf, Sorted};
+ghost use Rattle.pairs.specs.Pairs.{pairsOf, pair, has, Sorted};
 ghost use Rattle.book.specs.Maps.{lookup, lowerBound};
 ghost use Rattle.book.specs.Book.{
   gensTable,
   gensFrom,
   allocTable,
   allocFrom,
-  entryAt,
   keyOf,
   bookOf,
 };
-ghost use Rattle.book.specs.Walk.{Opened, Rising};
+ghost use Rattle.book.specs.Walk.{Opened, Rising, firstAt};
+ghost use Rattle.search.specs.Bound.{LowerBound};
 ghost use Rattle.walk.specs.Keys.{keyAt, AtKey, gather};
 ghost use Rattle.buckets.specs.BucketGensAgainstAlloc.{orZero, isGens, genAt, gensOfKey, bucketGensAgainstAlloc};
 ghost use Rattle.buckets.specs.FreeSpace.{
@@ -30,6 +30,8 @@ ghost use Rattle.buckets.specs.FreeSpace.{
   freeSpace,
 };
 ghost use Rattle.buckets.specs.Steps.{
+  genOf,
+  uncoveredOf,
   keyGens,
   coverPair,
   notCovered,
@@ -41,6 +43,8 @@ ghost use Rattle.buckets.specs.Steps.{
   isFreeOf,
   usedWith,
   usedOf,
+  usedFrom,
+  Marked,
   Below,
   entryFindings,
   gapOf,
@@ -64,36 +68,44 @@ fn least(a: usize, b: usize) -> usize
     if a < b { a } else { b }
 }
 
-// The generation that a gens table gives a bucket: 0 where it has none.
-fn generation(book: &[u8], start: usize, count: usize, bucket: u64) -> u8
-    requires { ⌜ Rising gensTable (now book) start count ⌝ }
-    ensures { λ r. ⌜ r ≡ orZero (lookup bucket (gensFrom (now (book .entry)) count start)) ⌝ }
-{
-    let found = tables::find_gen(book, start, count, bucket);
-    match found {
-        MaybeU8::Is(generation) => generation,
-        MaybeU8::Absent => 0,
-    }
+// A place in a gens table, and a generation.
+struct Gen {
+    at: usize,
+    generation: u8,
 }
 
-// What byte i of a value at `offset` gives, after n findings.
+// The generation that a gens table gives a bucket, 0 where it has none, and the place of the next bucket, by the place of this one.
+fn next_gen(book: &[u8], start: usize, count: usize, at: usize, bucket: u64) -> Gen
+    requires { ⌜ Rising gensTable (now book) start count × LowerBound (firstAt gensTable (now book) start) count bucket at ⌝ }
+    ensures generation { λ r. ⌜ r .generation ≡ orZero (lookup bucket (gensFrom (now (book .entry)) count start)) ⌝ }
+    ensures next { λ r. ⌜ LowerBound (firstAt gensTable (now (book .entry)) start) count (bucket + 1) (r .at) ⌝ }
+{
+    if at == count {
+        return Gen { at, generation: 0 };
+    }
+    let p = start + at * 9;
+    if bits::be64(book, p) == bucket {
+        return Gen {
+            at: at + 1,
+            generation: book[p + 8],
+        };
+    }
+    Gen { at, generation: 0 }
+}
+
+// What a recorded generation of a bucket gives, after n findings.
 fn gen_at(
-    book: &[u8],
-    start: usize,
-    count: usize,
-    offset: u64,
-    i: usize,
+    bucket: u64,
     recorded: u8,
+    expected: u8,
     out: &mut [u8],
     counts: &mut [u64],
     n: usize,
 ) -> usize
-    requires { ⌜ Rising gensTable (now book) start count × (i < 256) × (n < 2 ^ 62) ⌝ }
-    ensures added { λ r. ⌜ Added (sink (now (out .entry)) (now (counts .entry))) n (genAt (gensFrom (now (book .entry)) count start) offset i recorded) r (sink (now (out .exit)) (now (counts .exit))) ⌝ }
+    requires { ⌜ n < 2 ^ 62 ⌝ }
+    ensures added { λ r. ⌜ Added (sink (now (out .entry)) (now (counts .entry))) n (genOf bucket recorded expected) r (sink (now (out .exit)) (now (counts .exit))) ⌝ }
     ensures few { λ r. ⌜ r ≤ n + 1 ⌝ }
 {
-    let bucket = offset % 0x100_0000_0000_0000 * 256 + (i as u64);
-    let expected = generation(book, start, count, bucket);
     emit_if(
         out,
         counts,
@@ -105,7 +117,7 @@ fn gen_at(
     )
 }
 
-// What the first 256 bytes of a value at `offset` give.
+// What the first 256 bytes of a value at `offset` give: a merge with the gens table.
 fn gens_of_value(
     book: &[u8],
     start: usize,
@@ -120,10 +132,15 @@ fn gens_of_value(
     ensures few { λ r. ⌜ r ≤ 256 ⌝ }
 {
     let end = least(value.len(), 256);
+    let base = offset % 0x100_0000_0000_0000 * 256;
+    let mut at = tables::gens_from(book, start, count, base);
     let mut n: usize = 0;
     let mut i: usize = 0;
     while i < end {
-        n = gen_at(book, start, count, offset, i, value[i], out, counts, n);
+        let bucket = base + (i as u64);
+        let g = next_gen(book, start, count, at, bucket);
+        n = gen_at(bucket, value[i], g.generation, out, counts, n);
+        at = g.at;
         i += 1;
     }
     n
@@ -171,10 +188,17 @@ fn key_gens(
         )
 }
 
-// A number of findings, and a number of pairs.
+// A number of findings, a number of pairs, and a place in a table from where the next search starts: of it only its bound is promised.
 struct Counts {
     found: usize,
     put: usize,
+    near: usize,
+}
+
+// A number of findings, and such a place.
+struct Shown {
+    found: usize,
+    near: usize,
 }
 
 // What the key at byte p with the front f gives, if it is a bucket_gens key of the device: its findings after those counted, and the pair
@@ -201,6 +225,7 @@ fn take_gens(
         return Counts {
             found,
             put: c.put + 1,
+            near: 0,
         };
     }
     c
@@ -220,7 +245,11 @@ fn gens_of_keys(
     ensures put { λ r. ⌜ pairsOf (now (work .exit)) (r .put) ≡ gather (coverPair (h .device)) (now (book .entry)) (h .keys) (at .keys) ⌝ }
     ensures few { λ r. ⌜ (r .found ≤ h .keys * 256) × (r .put ≤ h .keys) ⌝ }
 {
-    let mut c = Counts { found: 0, put: 0 };
+    let mut c = Counts {
+        found: 0,
+        put: 0,
+        near: 0,
+    };
     let mut left = h.keys;
     let mut p = at.keys;
     while 0 < left {
@@ -232,23 +261,37 @@ fn gens_of_keys(
     c
 }
 
-// What the entry of a gens table at byte p gives, where the first n pairs, which are sorted, are the offsets covered; m were found before.
+// A number of 256 buckets, and whether a key covers them.
+struct Cover {
+    block: u64,
+    covered: bool,
+}
+
+// Whether a block is covered, where the first n pairs, which are sorted, are the offsets covered, by what is known of the block before.
+fn cover_of(work: &[u64], n: usize, c: Cover, block: u64) -> Cover
+    requires { ⌜ (2 * n ≤ length (now work)) × Sorted (pairsOf (now work) n) × (c .covered ≡ has (pair (c .block) 0) (pairsOf (now work) n)) ⌝ }
+    ensures { λ r. ⌜ (r .block ≡ block) × (r .covered ≡ has (pair block 0) (pairsOf (now (work .entry)) n)) ⌝ }
+{
+    if c.block == block {
+        return c;
+    }
+    let covered = pairs::has_pair(work, n, block, 0);
+    Cover { block, covered }
+}
+
+// What a bucket's generation gives, after m findings.
 fn uncovered_at(
-    book: &[u8],
-    p: usize,
-    work: &[u64],
-    n: usize,
+    bucket: u64,
+    generation: u32,
+    covered: bool,
     out: &mut [u8],
     counts: &mut [u64],
     m: usize,
 ) -> usize
-    requires { ⌜ (p + 9 ≤ length (now book)) × (2 * n ≤ length (now work)) × Sorted (pairsOf (now work) n) × (m < 2 ^ 62) ⌝ }
-    ensures added { λ r. ⌜ Added (sink (now (out .entry)) (now (counts .entry))) m (notCovered (pairsOf (now (work .entry)) n) (entryAt gensTable (now (book .entry)) p .first) (entryAt gensTable (now (book .entry)) p .rest)) r (sink (now (out .exit)) (now (counts .exit))) ⌝ }
+    requires { ⌜ m < 2 ^ 62 ⌝ }
+    ensures added { λ r. ⌜ Added (sink (now (out .entry)) (now (counts .entry))) m (uncoveredOf covered bucket generation) r (sink (now (out .exit)) (now (counts .exit))) ⌝ }
     ensures few { λ r. ⌜ r ≤ m + 1 ⌝ }
 {
-    let bucket = bits::be64(book, p);
-    let generation = bits::byte(book, p + 8);
-    let covered = pairs::has_pair(work, n, bucket / 256, 0);
     emit_if(
         out,
         counts,
@@ -274,11 +317,16 @@ fn show_uncovered(
     ensures found { λ r. ⌜ Found (sink (now (out .entry)) (now (counts .entry))) (each (λ _ e. notCovered (pairsOf (now (work .entry)) n) (e .0) (e .1)) 0 (gensFrom (now (book .entry)) count start)) r (sink (now (out .exit)) (now (counts .exit))) ⌝ }
     ensures few { λ r. ⌜ r ≤ count ⌝ }
 {
+    let covered = pairs::has_pair(work, n, 0, 0);
+    let mut c = Cover { block: 0, covered };
     let mut found: usize = 0;
     let mut left = count;
     let mut p = start;
     while 0 < left {
-        found = uncovered_at(book, p, work, n, out, counts, found);
+        let bucket = bits::be64(book, p);
+        let generation = bits::byte(book, p + 8);
+        c = cover_of(work, n, c, bucket / 256);
+        found = uncovered_at(bucket, generation, c.covered, out, counts, found);
         p += 9;
         left -= 1;
     }
@@ -350,34 +398,40 @@ fn put_run(h: Header, k: KeyHead, work: &mut [u64], n: usize) -> usize
     n + 1
 }
 
-// Entries of an alloc table: the byte where the first of them starts, and their number.
+// Entries of an alloc table: the byte where the first of them starts, how many stand before it, and their number.
 struct Range {
     start: usize,
+    low: usize,
     count: usize,
 }
 
-// The entries of an alloc table for the buckets from `from` up to `to`.
-fn find_range(book: &[u8], start: usize, count: usize, from: u64, to: u64) -> Range
-    requires { ⌜ Rising allocTable (now book) start count × (length (now book) ≤ 1048576) × (from ≤ to) ⌝ }
+// The entries of an alloc table for the buckets from `from` up to `to`, looked for from the place `near` on.
+fn find_range(book: &[u8], start: usize, count: usize, near: usize, from: u64, to: u64) -> Range
+    requires { ⌜ Rising allocTable (now book) start count × (length (now book) ≤ 1048576) × (from ≤ to) × (near ≤ count) ⌝ }
     ensures { λ r. ⌜ r ≡ rangeOf start (allocFrom (now (book .entry)) count start) from to ⌝ }
 {
-    let low = tables::alloc_from(book, start, count, from);
-    let high = tables::alloc_from(book, start, count, to);
+    let low = tables::alloc_near(book, start, count, near, from);
+    let high = tables::alloc_near(book, start, count, low, to);
     Range {
         start: start + low * 10,
+        low,
         count: high - low,
     }
 }
 
 // The same, at once where the table has no entries: the compiler puts this test in place, and a run costs no search then.
-fn alloc_range(book: &[u8], start: usize, count: usize, from: u64, to: u64) -> Range
-    requires { ⌜ Rising allocTable (now book) start count × (length (now book) ≤ 1048576) × (from ≤ to) ⌝ }
+fn alloc_range(book: &[u8], start: usize, count: usize, near: usize, from: u64, to: u64) -> Range
+    requires { ⌜ Rising allocTable (now book) start count × (length (now book) ≤ 1048576) × (from ≤ to) × (near ≤ count) ⌝ }
     ensures { λ r. ⌜ r ≡ rangeOf start (allocFrom (now (book .entry)) count start) from to ⌝ }
 {
     if count == 0 {
-        return Range { start, count: 0 };
+        return Range {
+            start,
+            low: 0,
+            count: 0,
+        };
     }
-    find_range(book, start, count, from, to)
+    find_range(book, start, count, near, from, to)
 }
 
 // Whether a data type says that its bucket is in use.
@@ -441,27 +495,112 @@ fn used_among(book: &[u8], start: usize, count: usize, none: u64) -> Used
     u
 }
 
+// Those of the entries from number `from` on of the `count` from byte `start` on, where those from number `to` on give u.
+fn used_down(book: &[u8], start: usize, count: usize, from: usize, to: usize, u: Used) -> Used
+    requires { ⌜ (length (now book) ≤ 1048576) × (start + count * 10 ≤ length (now book)) × (from ≤ to) × (to ≤ count) × (u ≡ usedFrom (now book) start count to) ⌝ }
+    ensures { λ r. ⌜ r ≡ usedFrom (now (book .entry)) start count from ⌝ }
+{
+    let mut used = u;
+    let mut left = to;
+    while from < left {
+        left -= 1;
+        let e = tables::alloc_entry(book, start + left * 10);
+        used = with_entry(e, used);
+    }
+    used
+}
+
+// Puts u as mark k.
+fn put_mark(marks: &mut [u64], k: usize, u: Used)
+    requires { ⌜ 2 * k + 2 ≤ length (now marks) ⌝ }
+    ensures { λ r. ⌜ now (marks .exit) ≡ set (set (now (marks .entry)) (2 * k) (u .count)) (2 * k + 1) (u .first) ⌝ }
+{
+    let at = 2 * k;
+    marks[at] = u.count;
+    marks[at + 1] = u.first;
+}
+
+// Marks every 256th of the `count` alloc entries from byte `start` on with those in use from there on.
+fn put_marks(book: &[u8], start: usize, count: usize, marks: &mut [u64])
+    requires { ⌜ (length (now book) ≤ 1048576) × (start + count * 10 ≤ length (now book)) × (count < 65536) × (length (now marks) ≡ 514) ⌝ }
+    ensures { λ r. ⌜ Marked (now (book .entry)) start count (now (marks .exit)) ⌝ }
+{
+    let mut u = Used { count: 0, first: 0 };
+    let mut k: usize = 257;
+    while 0 < k {
+        let to = least(k * 256, count);
+        k -= 1;
+        let from = least(k * 256, count);
+        u = used_down(book, start, count, from, to, u);
+        put_mark(marks, k, u);
+    }
+}
+
+// Those of the entries from number i on, from the next mark downwards.
+fn used_from(book: &[u8], start: usize, count: usize, marks: &[u64], i: usize) -> Used
+    requires { ⌜ (length (now book) ≤ 1048576) × (start + count * 10 ≤ length (now book)) × (count < 65536) × (514 ≤ length (now marks)) × Marked (now book) start count (now marks) × (i ≤ count) ⌝ }
+    ensures { λ r. ⌜ r ≡ usedFrom (now (book .entry)) start count i ⌝ }
+{
+    let k = (i + 255) / 256;
+    let at = 2 * k;
+    let u = Used {
+        count: marks[at],
+        first: marks[at + 1],
+    };
+    used_down(book, start, count, i, least(k * 256, count), u)
+}
+
+// Those of n entries from number `low` on, where the first is `none` if there is none: by the marks, where that is less than to read them.
+fn used_in(
+    book: &[u8],
+    start: usize,
+    count: usize,
+    marks: &[u64],
+    low: usize,
+    n: usize,
+    none: u64,
+) -> Used
+    requires { ⌜ (length (now book) ≤ 1048576) × (start + count * 10 ≤ length (now book)) × (count < 65536) × Marked (now book) start count (now marks) × (low + n ≤ count) ⌝ }
+    ensures used { λ r. ⌜ r ≡ usedOf none (allocFrom (now (book .entry)) n (start + low * 10)) ⌝ }
+    ensures few { λ r. ⌜ r .count ≤ n ⌝ }
+{
+    if (n <= 512) | (marks.len() < 514) {
+        return used_among(book, start + low * 10, n, none);
+    }
+    let a = used_from(book, start, count, marks, low);
+    let b = used_from(book, start, count, marks, low + n);
+    let number = a.count - b.count;
+    let first = choose(0 < number, a.first, none);
+    Used {
+        count: number,
+        first,
+    }
+}
+
 // What the buckets of a run from `start` up to `end` give, after n findings.
 fn show_set(
     book: &[u8],
     h: Header,
     at: Places,
+    marks: &[u64],
     start: u64,
     end: u64,
     out: &mut [u8],
     counts: &mut [u64],
     n: usize,
-) -> usize
-    requires { ⌜ Opened (now book) h at × (start ≤ end) × (n < 2 ^ 62) ⌝ }
-    ensures added { λ r. ⌜ Added (sink (now (out .entry)) (now (counts .entry))) n (setFindings (h .«first_bucket») start (usedBuckets (allocRange start end (bookOf (now (book .entry)) .alloc)))) r (sink (now (out .exit)) (now (counts .exit))) ⌝ }
-    ensures few { λ r. ⌜ r ≤ n + 1 ⌝ }
+    near: usize,
+) -> Shown
+    requires { ⌜ Opened (now book) h at × Marked (now book) (at .alloc) (h .alloc) (now marks) × (start ≤ end) × (n < 2 ^ 62) × (near ≤ h .alloc) ⌝ }
+    ensures added { λ r. ⌜ Added (sink (now (out .entry)) (now (counts .entry))) n (setFindings (h .«first_bucket») start (usedBuckets (allocRange start end (bookOf (now (book .entry)) .alloc)))) (r .found) (sink (now (out .exit)) (now (counts .exit))) ⌝ }
+    ensures few { λ r. ⌜ (r .found ≤ n + 1) × (r .near ≤ h .alloc) ⌝ }
 {
-    let range = alloc_range(book, at.alloc, h.alloc as usize, start, end);
-    let used = used_among(book, range.start, range.count, start);
+    let count = h.alloc as usize;
+    let range = alloc_range(book, at.alloc, count, near, start, end);
+    let used = used_in(book, at.alloc, count, marks, range.low, range.count, start);
     let early = start < (h.first_bucket as u64);
     let named = choose(early, start, used.first);
     let more = choose(early, 1, 0);
-    emit_if(
+    let found = emit_if(
         out,
         counts,
         n,
@@ -469,7 +608,11 @@ fn show_set(
         48,
         named,
         used.count + more,
-    )
+    );
+    Shown {
+        found,
+        near: range.low,
+    }
 }
 
 // What the run with the head k gives, after n findings.
@@ -477,20 +620,34 @@ fn show_run(
     book: &[u8],
     h: Header,
     at: Places,
+    marks: &[u64],
     k: KeyHead,
     out: &mut [u8],
     counts: &mut [u64],
     n: usize,
-) -> usize
-    requires { ⌜ Opened (now book) h at × (n < 2 ^ 62) ⌝ }
-    ensures added { λ r. ⌜ Added (sink (now (out .entry)) (now (counts .entry))) n (runFindings (bookOf (now (book .entry))) (keyOf (now (book .entry)) k)) r (sink (now (out .exit)) (now (counts .exit))) ⌝ }
-    ensures few { λ r. ⌜ r ≤ n + 1 ⌝ }
+    near: usize,
+) -> Shown
+    requires { ⌜ Opened (now book) h at × Marked (now book) (at .alloc) (h .alloc) (now marks) × (n < 2 ^ 62) × (near ≤ h .alloc) ⌝ }
+    ensures added { λ r. ⌜ Added (sink (now (out .entry)) (now (counts .entry))) n (runFindings (bookOf (now (book .entry))) (keyOf (now (book .entry)) k)) (r .found) (sink (now (out .exit)) (now (counts .exit))) ⌝ }
+    ensures few { λ r. ⌜ (r .found ≤ n + 1) × (r .near ≤ h .alloc) ⌝ }
 {
     let size = k.size as u64;
     if no_run(h, k) {
-        return emit(out, counts, n, 47, k.offset, size);
+        let found = emit(out, counts, n, 47, k.offset, size);
+        return Shown { found, near };
     }
-    show_set(book, h, at, k.offset - size, k.offset, out, counts, n)
+    show_set(
+        book,
+        h,
+        at,
+        marks,
+        k.offset - size,
+        k.offset,
+        out,
+        counts,
+        n,
+        near,
+    )
 }
 
 // What the key at byte p with the front f gives, if it is a run: its findings after those counted, and its pair behind those counted.
@@ -498,6 +655,7 @@ fn take_run(
     book: &[u8],
     h: Header,
     at: Places,
+    marks: &[u64],
     p: usize,
     f: KeyFront,
     out: &mut [u8],
@@ -505,22 +663,57 @@ fn take_run(
     work: &mut [u64],
     c: Counts,
 ) -> Counts
-    requires { ⌜ Opened (now book) h at × AtKey (now book) p f × (c .found < 2 ^ 62) × (2 * c .put + 2 ≤ length (now work)) ⌝ }
+    requires { ⌜ Opened (now book) h at × Marked (now book) (at .alloc) (h .alloc) (now marks) × AtKey (now book) p f × (c .found < 2 ^ 62) × (2 * c .put + 2 ≤ length (now work)) × (c .near ≤ h .alloc) ⌝ }
     ensures added { λ r. ⌜ Added (sink (now (out .entry)) (now (counts .entry))) (c .found) (only (isRun (keyAt (now (book .entry)) p)) (runFindings (bookOf (now (book .entry))) (keyAt (now (book .entry)) p))) (r .found) (sink (now (out .exit)) (now (counts .exit))) ⌝ }
     ensures put { λ r. ⌜ pairsOf (now (work .exit)) (r .put) ≡ pairsOf (now (work .entry)) (c .put) ++ runPair (bookOf (now (book .entry))) p (keyAt (now (book .entry)) p) ⌝ }
-    ensures few { λ r. ⌜ (r .found ≤ c .found + 1) × (r .put ≤ c .put + 1) ⌝ }
+    ensures few { λ r. ⌜ (r .found ≤ c .found + 1) × (r .put ≤ c .put + 1) × (r .near ≤ h .alloc) ⌝ }
 {
     if (f.btree == 11) & (f.key_type == 25) {
         let k = book::key_head(book, p);
-        let found = show_run(book, h, at, k, out, counts, c.found);
+        let shown = show_run(book, h, at, marks, k, out, counts, c.found, c.near);
         let put = put_run(h, k, work, c.put);
-        return Counts { found, put };
+        return Counts {
+            found: shown.found,
+            put,
+            near: shown.near,
+        };
     }
     c
 }
 
 // What the runs give, and a pair for each of the device, those of size 0 too.
 fn take_runs(
+    book: &[u8],
+    h: Header,
+    at: Places,
+    marks: &[u64],
+    out: &mut [u8],
+    counts: &mut [u64],
+    work: &mut [u64],
+) -> Counts
+    requires { ⌜ Opened (now book) h at × Marked (now book) (at .alloc) (h .alloc) (now marks) × (2 * h .keys ≤ length (now work)) ⌝ }
+    ensures found { λ r. ⌜ Found (sink (now (out .entry)) (now (counts .entry))) (each (λ _ k. only (isRun k) (runFindings (bookOf (now (book .entry))) k)) 0 (bookOf (now (book .entry)) .keys)) (r .found) (sink (now (out .exit)) (now (counts .exit))) ⌝ }
+    ensures put { λ r. ⌜ pairsOf (now (work .exit)) (r .put) ≡ gather (runPair (bookOf (now (book .entry)))) (now (book .entry)) (h .keys) (at .keys) ⌝ }
+    ensures few { λ r. ⌜ (r .found ≤ h .keys) × (r .put ≤ h .keys) ⌝ }
+{
+    let mut c = Counts {
+        found: 0,
+        put: 0,
+        near: 0,
+    };
+    let mut left = h.keys;
+    let mut p = at.keys;
+    while 0 < left {
+        let f = book::key_front(book, p);
+        c = take_run(book, h, at, marks, p, f, out, counts, work, c);
+        p = p + 28 + f.len;
+        left -= 1;
+    }
+    c
+}
+
+// The same, by marks of the alloc entries.
+fn marked_runs(
     book: &[u8],
     h: Header,
     at: Places,
@@ -533,16 +726,30 @@ fn take_runs(
     ensures put { λ r. ⌜ pairsOf (now (work .exit)) (r .put) ≡ gather (runPair (bookOf (now (book .entry)))) (now (book .entry)) (h .keys) (at .keys) ⌝ }
     ensures few { λ r. ⌜ (r .found ≤ h .keys) × (r .put ≤ h .keys) ⌝ }
 {
-    let mut c = Counts { found: 0, put: 0 };
-    let mut left = h.keys;
-    let mut p = at.keys;
-    while 0 < left {
-        let f = book::key_front(book, p);
-        c = take_run(book, h, at, p, f, out, counts, work, c);
-        p = p + 28 + f.len;
-        left -= 1;
+    let mut marks = [0; 514];
+    put_marks(book, at.alloc, h.alloc as usize, &mut marks);
+    take_runs(book, h, at, &marks, out, counts, work)
+}
+
+// The same, by marks where there are enough alloc entries for them.
+fn all_runs(
+    book: &[u8],
+    h: Header,
+    at: Places,
+    out: &mut [u8],
+    counts: &mut [u64],
+    work: &mut [u64],
+) -> Counts
+    requires { ⌜ Opened (now book) h at × (2 * h .keys ≤ length (now work)) ⌝ }
+    ensures found { λ r. ⌜ Found (sink (now (out .entry)) (now (counts .entry))) (each (λ _ k. only (isRun k) (runFindings (bookOf (now (book .entry))) k)) 0 (bookOf (now (book .entry)) .keys)) (r .found) (sink (now (out .exit)) (now (counts .exit))) ⌝ }
+    ensures put { λ r. ⌜ pairsOf (now (work .exit)) (r .put) ≡ gather (runPair (bookOf (now (book .entry)))) (now (book .entry)) (h .keys) (at .keys) ⌝ }
+    ensures few { λ r. ⌜ (r .found ≤ h .keys) × (r .put ≤ h .keys) ⌝ }
+{
+    if h.alloc <= 512 {
+        let none = [0; 1];
+        return take_runs(book, h, at, &none, out, counts, work);
     }
-    c
+    marked_runs(book, h, at, out, counts, work)
 }
 
 // What the alloc entry e gives in a gap of which the buckets up to `at` are passed, after n findings.
@@ -590,19 +797,20 @@ fn show_hole(
     book: &[u8],
     h: Header,
     at: Places,
+    near: usize,
     from: u64,
     to: u64,
     out: &mut [u8],
     counts: &mut [u64],
     n: usize,
-) -> usize
-    requires { ⌜ Opened (now book) h at × (n < 2 ^ 62) × (from < to) ⌝ }
-    ensures added { λ r. ⌜ Added (sink (now (out .entry)) (now (counts .entry))) n (gapOf (bookOf (now (book .entry)) .alloc) from to) r (sink (now (out .exit)) (now (counts .exit))) ⌝ }
-    ensures few { λ r. ⌜ r ≤ n + 1 + 2 * (lowerBound to (bookOf (now (book .entry)) .alloc) - lowerBound from (bookOf (now (book .entry)) .alloc)) ⌝ }
+) -> Shown
+    requires { ⌜ Opened (now book) h at × (n < 2 ^ 62) × (from < to) × (near ≤ h .alloc) ⌝ }
+    ensures added { λ r. ⌜ Added (sink (now (out .entry)) (now (counts .entry))) n (gapOf (bookOf (now (book .entry)) .alloc) from to) (r .found) (sink (now (out .exit)) (now (counts .exit))) ⌝ }
+    ensures few { λ r. ⌜ (r .found ≤ n + 1 + 2 * (lowerBound to (bookOf (now (book .entry)) .alloc) - lowerBound from (bookOf (now (book .entry)) .alloc))) × (r .near ≤ h .alloc) ⌝ }
 {
-    let range = alloc_range(book, at.alloc, h.alloc as usize, from, to);
+    let range = alloc_range(book, at.alloc, h.alloc as usize, near, from, to);
     let rest = start_of(out.len(), n);
-    n
+    let found = n
         + show_entries(
             book,
             range.start,
@@ -611,7 +819,11 @@ fn show_hole(
             to,
             &mut out[rest..],
             counts,
-        )
+        );
+    Shown {
+        found,
+        near: range.low,
+    }
 }
 
 // The same: nothing if there are none, by a test that the compiler puts in place.
@@ -619,20 +831,21 @@ fn show_gap(
     book: &[u8],
     h: Header,
     at: Places,
+    near: usize,
     from: u64,
     to: u64,
     out: &mut [u8],
     counts: &mut [u64],
     n: usize,
-) -> usize
-    requires { ⌜ Opened (now book) h at × (n < 2 ^ 62) ⌝ }
-    ensures added { λ r. ⌜ Added (sink (now (out .entry)) (now (counts .entry))) n (gapOf (bookOf (now (book .entry)) .alloc) from to) r (sink (now (out .exit)) (now (counts .exit))) ⌝ }
-    ensures few { λ r. ⌜ r ≤ n + 1 + 2 * (lowerBound to (bookOf (now (book .entry)) .alloc) - lowerBound from (bookOf (now (book .entry)) .alloc)) ⌝ }
+) -> Shown
+    requires { ⌜ Opened (now book) h at × (n < 2 ^ 62) × (near ≤ h .alloc) ⌝ }
+    ensures added { λ r. ⌜ Added (sink (now (out .entry)) (now (counts .entry))) n (gapOf (bookOf (now (book .entry)) .alloc) from to) (r .found) (sink (now (out .exit)) (now (counts .exit))) ⌝ }
+    ensures few { λ r. ⌜ (r .found ≤ n + 1 + 2 * (lowerBound to (bookOf (now (book .entry)) .alloc) - lowerBound from (bookOf (now (book .entry)) .alloc))) × (r .near ≤ h .alloc) ⌝ }
 {
     if from < to {
-        return show_hole(book, h, at, from, to, out, counts, n);
+        return show_hole(book, h, at, near, from, to, out, counts, n);
     }
-    n
+    Shown { found: n, near }
 }
 
 // What the gaps between the runs give: the first n pairs, which are sorted.
@@ -649,18 +862,19 @@ fn show_gaps(
     ensures found { λ r. ⌜ Found (sink (now (out .entry)) (now (counts .entry))) (gapsFindings (bookOf (now (book .entry)) .alloc) (gaps (h .«first_bucket») (pairsOf (now (work .entry)) n) (h .buckets))) r (sink (now (out .exit)) (now (counts .exit))) ⌝ }
     ensures few { λ r. ⌜ r ≤ h .keys + 1 + 2 * h .alloc ⌝ }
 {
-    let mut found: usize = 0;
+    let mut s = Shown { found: 0, near: 0 };
     let mut from = h.first_bucket as u64;
     let mut i: usize = 0;
     while i < n {
         let q = 2 * i;
         let start = work[q];
         let end = work[q + 1];
-        found = show_gap(book, h, at, from, start, out, counts, found);
+        s = show_gap(book, h, at, s.near, from, start, out, counts, s.found);
         from = most(from, end);
         i += 1;
     }
-    show_gap(book, h, at, from, h.buckets, out, counts, found)
+    let last = show_gap(book, h, at, s.near, from, h.buckets, out, counts, s.found);
+    last.found
 }
 
 // The findings of runs of free buckets, then of the gaps between them.
@@ -676,7 +890,7 @@ pub fn free_space(
     ensures found { λ r. ⌜ Found (sink (now (out .entry)) (now (counts .entry))) (freeSpace (bookOf (now (book .entry)))) r (sink (now (out .exit)) (now (counts .exit))) ⌝ }
     ensures few { λ r. ⌜ r ≤ 2 * h .keys + 1 + 2 * h .alloc ⌝ }
 {
-    let runs = take_runs(book, h, at, out, counts, work);
+    let runs = all_runs(book, h, at, out, counts, work);
     let n = runs.found;
     let m = runs.put;
     sorting::sort_pairs(work, m);

@@ -1,6 +1,6 @@
 -- Laws of a table that rises: a search by the first field finds what the map has.
 use Prim.Native.Nat.{ℕ, zero, suc, _+_, _*_, _≤_, _<_}
-use mathlib.Core.Path.{_≡_, sym, ap, _∙_}
+use mathlib.Core.Path.{_≡_, refl, sym, ap, _∙_}
 use mathlib.Core.List.{List}
 use mathlib.Core.Option.{none, some}
 use mathlib.Core.Logic.{⊎-elim}
@@ -12,9 +12,9 @@ use Rattle.search.specs.Bound.{LowerBound, Bracket}
 use Rattle.search.proofs.Bracket.{NotFalling, rising-order, le-or-lt}
 use Rattle.book.specs.declared.Table.{Table}
 use Rattle.book.specs.Maps.{lookup, lowerBound}
-use Rattle.book.specs.Book.{wordsTable, entryAt, tableFrom}
+use Rattle.book.specs.Book.{wordsTable, allocTable, entryAt, tableFrom}
 use Rattle.book.specs.Walk.{firstAt, Rising}
-use Rattle.book.proofs.Tables.{word-be, pairAt, length-table}
+use Rattle.book.proofs.Tables.{word-be, first-be, pairAt, length-table}
 use Rattle.tables.proofs.Maps.{lookup-none, lookup-some, lower-bound-at}
 
 -- each entry of a table that rises lies within the bytes
@@ -34,6 +34,10 @@ bracket-from r b m l h =
 -- a word that was read is the first field of entry i
 pub word-first : (s : List ℕ) → ((j : ℕ) → getD s j 0 < 256) → (start i : ℕ) {w : ℕ} → w ≡ beAt s (start + i * 8) 4 → w ≡ firstAt wordsTable s start i
 word-first s bytes start i e = word-be s bytes (start + i * 8) e
+
+-- and so is a bucket of an alloc table
+pub bucket-first : (s : List ℕ) → ((j : ℕ) → getD s j 0 < 256) → (start i : ℕ) {w : ℕ} → w ≡ beAt s (start + i * 10) 8 → w ≡ firstAt allocTable s start i
+bucket-first s bytes start i e = e ∙ sym (first-be allocTable s bytes (start + i * 10) 8 refl)
 
 module _ {A : Type 0} (read : ℕ → A) (t : Table) (s : List ℕ) where
   -- entry k, as a pair of the map

@@ -4,7 +4,7 @@ ghost use Prim.Native.Nat.{_+_, _≤_};
 ghost use lib.ListN.{length};
 ghost use Rattle.search.specs.Bound.{LowerBound, Bracket};
 ghost use Rattle.book.specs.Maps.{lookup, lowerBound};
-ghost use Rattle.book.specs.Book.{wordsTable, gensTable, allocTable, entryAt, wordsFrom, gensFrom, allocFrom, dataType};
+ghost use Rattle.book.specs.Book.{wordsTable, gensTable, allocTable, entryAt, wordsFrom, allocFrom, dataType};
 ghost use Rattle.book.specs.Walk.{Readable, firstAt, Rising, maybeU8, maybeU32, allocEntryOf};
 use bits::Cursor;
 use book::AllocEntry;
@@ -146,13 +146,14 @@ pub fn find_word(book: &[u8], start: usize, count: usize, near: usize, id: u32) 
     WordAt { at, word }
 }
 
-// How many of the `count` entries of a table whose first field has 64 bits have one below `bucket`, where these rise. A turn is that of `bound_within`.
-fn lower_bound64(book: &[u8], t: Table, start: usize, count: usize, bucket: u64) -> usize
-    requires { ⌜ (t .first ≡ 64) × (8 ≤ t .size) × Rising t (now book) start count ⌝ }
+// How many of the `count` entries of a table whose first field has 64 bits have one below `bucket`, where these rise: a number in the window `w`. A turn is
+// that of `bound_within`.
+fn lower_bound64(book: &[u8], t: Table, start: usize, count: usize, w: Window, bucket: u64) -> usize
+    requires { ⌜ (t .first ≡ 64) × (8 ≤ t .size) × Rising t (now book) start count × Bracket (firstAt t (now book) start) count bucket (w .low) (w .high) ⌝ }
     ensures { λ r. ⌜ LowerBound (firstAt t (now (book .entry)) start) count bucket r ⌝ }
 {
-    let mut base = 0;
-    let mut size = count;
+    let mut base = w.low;
+    let mut size = w.high - w.low;
     while 0 < size {
         let mid = base + (size - 1) / 2;
         let first = bits::be64(book, start + mid * t.size);
@@ -163,38 +164,102 @@ fn lower_bound64(book: &[u8], t: Table, start: usize, count: usize, bucket: u64)
     base
 }
 
-// The generation that a gens table has for a bucket.
-pub fn find_gen(book: &[u8], start: usize, count: usize, bucket: u64) -> MaybeU8
+// How many entries of a gens table stand before the first whose bucket is `bucket` or above.
+pub fn gens_from(book: &[u8], start: usize, count: usize, bucket: u64) -> usize
     requires { ⌜ Rising gensTable (now book) start count ⌝ }
-    ensures { λ r. ⌜ r ≡ maybeU8 (lookup bucket (gensFrom (now (book .entry)) count start)) ⌝ }
+    ensures { λ r. ⌜ LowerBound (firstAt gensTable (now (book .entry)) start) count bucket r ⌝ }
 {
     let gens = Table {
         size: 9,
         first: 64,
         typed: false,
     };
-    let i = lower_bound64(book, gens, start, count, bucket);
-    if i == count {
-        return MaybeU8::Absent;
-    }
-    let at = start + i * 9;
-    if bits::be64(book, at) == bucket {
-        return MaybeU8::Is(book[at + 8]);
-    }
-    MaybeU8::Absent
+    let all = Window {
+        low: 0,
+        high: count,
+    };
+    lower_bound64(book, gens, start, count, all, bucket)
 }
 
-// How many entries of an alloc table stand before the first whose bucket is `bucket` or above.
-pub fn alloc_from(book: &[u8], start: usize, count: usize, bucket: u64) -> usize
+// A window with the place of a bucket among alloc entries, which is not before `from`: entries from there on are tried, by steps that double.
+fn alloc_up(book: &[u8], start: usize, count: usize, from: usize, bucket: u64) -> Window
     requires { ⌜ Rising allocTable (now book) start count ⌝ }
-    ensures { λ r. ⌜ r ≡ lowerBound bucket (allocFrom (now (book .entry)) count start) ⌝ }
+    requires { ⌜ Bracket (firstAt allocTable (now book) start) count bucket from count ⌝ }
+    ensures { λ r. ⌜ Bracket (firstAt allocTable (now (book .entry)) start) count bucket (r .low) (r .high) ⌝ }
+{
+    let mut low = from;
+    let mut step = 1;
+    while step <= count - low {
+        let i = low + step - 1;
+        let at = start + i * 10;
+        if bucket <= bits::be64(book, at) {
+            return Window { low, high: i };
+        }
+        low = i + 1;
+        step *= 2;
+    }
+    Window { low, high: count }
+}
+
+// A window with the place of a bucket among alloc entries, which is not after `to`: entries before that are tried, by steps that double.
+fn alloc_down(book: &[u8], start: usize, count: usize, to: usize, bucket: u64) -> Window
+    requires { ⌜ Rising allocTable (now book) start count ⌝ }
+    requires { ⌜ Bracket (firstAt allocTable (now book) start) count bucket 0 to ⌝ }
+    ensures { λ r. ⌜ Bracket (firstAt allocTable (now (book .entry)) start) count bucket (r .low) (r .high) ⌝ }
+{
+    let mut high = to;
+    let mut step = 1;
+    while step <= high {
+        let i = high - step;
+        let at = start + i * 10;
+        if bits::be64(book, at) <= bucket {
+            return Window { low: i, high };
+        }
+        high = i;
+        step *= 2;
+    }
+    Window { low: 0, high }
+}
+
+// A window with the place of a bucket among alloc entries, found from entry `near` upwards or downwards; of all entries, where `near` is their count.
+fn alloc_around(book: &[u8], start: usize, count: usize, near: usize, bucket: u64) -> Window
+    requires { ⌜ Rising allocTable (now book) start count × (near ≤ count) ⌝ }
+    ensures { λ r. ⌜ Bracket (firstAt allocTable (now (book .entry)) start) count bucket (r .low) (r .high) ⌝ }
+{
+    if near == count {
+        return Window {
+            low: 0,
+            high: count,
+        };
+    }
+    let at = start + near * 10;
+    if bits::be64(book, at) < bucket {
+        return alloc_up(book, start, count, near + 1, bucket);
+    }
+    alloc_down(book, start, count, near, bucket)
+}
+
+// How many entries of an alloc table stand before the first whose bucket is `bucket` or above, where `w` is a window with that place.
+fn alloc_within(book: &[u8], start: usize, count: usize, w: Window, bucket: u64) -> usize
+    requires { ⌜ Rising allocTable (now book) start count × Bracket (firstAt allocTable (now book) start) count bucket (w .low) (w .high) ⌝ }
+    ensures { λ r. ⌜ (r ≡ lowerBound bucket (allocFrom (now (book .entry)) count start)) × (r ≤ count) ⌝ }
 {
     let alloc = Table {
         size: 10,
         first: 64,
         typed: true,
     };
-    lower_bound64(book, alloc, start, count, bucket)
+    lower_bound64(book, alloc, start, count, w, bucket)
+}
+
+// How many entries of an alloc table stand before the first whose bucket is `bucket` or above. The search starts from the place `near`, such as that of
+// another bucket; from the count, it is among all entries.
+pub fn alloc_near(book: &[u8], start: usize, count: usize, near: usize, bucket: u64) -> usize
+    requires { ⌜ Rising allocTable (now book) start count × (near ≤ count) ⌝ }
+    ensures { λ r. ⌜ (r ≡ lowerBound bucket (allocFrom (now (book .entry)) count start)) × (r ≤ count) ⌝ }
+{
+    let w = alloc_around(book, start, count, near, bucket);
+    alloc_within(book, start, count, w, bucket)
 }
 
 // The data type of an alloc entry, by the rest of its bits.

@@ -13,13 +13,13 @@ use Rattle.buckets.proofs.free_space.Tie as tie
 show-gaps-requires : tie.Need-show-gaps-requires
 show-gaps-requires c κs =
     let pre = c .before .before .before .before .before .before .before .before .before .before .before .before .before .before .before .before .before .before .before .before .before .before .pre in
-    let runs = c .before .before .before .before .before .before .before .before .before .before .before .before .before .before .take-runs .ensures in
+    let runs = c .before .before .before .before .before .before .before .before .before .before .before .before .before .before .all-runs .ensures in
     let fair = fair-sorted (c .before .before .before .before .before .before .before .before .before .before .before .before .before .before .before .before .before .before .before .before .before .before .args .book .now) (parts (pre .0) .header) _ _ (c .before .before .before .before .before .before .sort-pairs .ensures .0 ∙ ap sort (runs .1 .0)) in
     (pre .0, runs .1 .1 .1, omega (arith, runs .1 .1 .1, pre .1), fair)
 
 returns : tie.Need-returns
 returns c =
-    let runs = c .before .before .before .before .before .before .before .before .before .before .before .before .before .before .before .before .before .before .before .take-runs in
+    let runs = c .before .before .before .before .before .before .before .before .before .before .before .before .before .before .before .before .before .before .before .all-runs in
     let rest = c .before .before .before .before .before .before .before .before .start-of in
     let gaps = c .before .before .before .before .show-gaps in
     let sorted = c .before .before .before .before .before .before .before .before .before .before .before .sort-pairs .ensures .0 ∙ ap sort (runs .ensures .1 .0) in
@@ -37,7 +37,7 @@ free-space-spec =
     (λ c. search needs)
     (λ c. search needs)
     show-gaps-requires
-    (λ c. omega (arith, c .before .before .before .before .before .before .before .before .before .before .before .before .before .before .before .before .before .before .before .take-runs .ensures .1 .1 .0, c .before .before .before .before .show-gaps .ensures .1, c .before .before .before .before .before .before .before .before .before .before .before .before .before .before .before .before .before .before .before .before .before .before .before .before .before .before .before))
+    (λ c. omega (arith, c .before .before .before .before .before .before .before .before .before .before .before .before .before .before .before .before .before .before .before .all-runs .ensures .1 .1 .0, c .before .before .before .before .show-gaps .ensures .1, c .before .before .before .before .before .before .before .before .before .before .before .before .before .before .before .before .before .before .before .before .before .before .before .before .before .before .before))
     (λ c. search needs)
     (λ c. search needs)
     (λ c. search needs)

@@ -17,12 +17,13 @@ use Rattle.buckets.proofs.show_gaps.Statement.{statement}
 use Rattle.buckets.proofs.show_gaps.Tie as tie
 
 abbrev Inv-loop : tie.InvT-loop
-Inv-loop book h at work n out₀ counts₀ found₀ from₀ i₀ out counts found from i =
-    (i ≤ n) × (h .«first_bucket» ≤ from) × (found ≤ i + 2 * lowerBound from (bookOf book .alloc))
-    × Begun (gapsFindings (bookOf book .alloc) (gaps (h .«first_bucket») (pairsOf work n) (h .buckets))) (sink out₀ counts₀) (gapsFindings (bookOf book .alloc) (gaps from (drop i (pairsOf work n)) (h .buckets))) found (sink out counts)
+Inv-loop book h at work n out₀ counts₀ s₀ from₀ i₀ out counts s from i =
+    (i ≤ n) × (h .«first_bucket» ≤ from) × (s .found ≤ i + 2 * lowerBound from (bookOf book .alloc))
+    × Begun (gapsFindings (bookOf book .alloc) (gaps (h .«first_bucket») (pairsOf work n) (h .buckets))) (sink out₀ counts₀) (gapsFindings (bookOf book .alloc) (gaps from (drop i (pairsOf work n)) (h .buckets))) (s .found) (sink out counts)
+    × (s .near ≤ h .alloc)
 
 abbrev μ-loop : tie.MeasureT-loop
-μ-loop book h at work n out₀ counts₀ found₀ from₀ i₀ out counts found from i = n - i
+μ-loop book h at work n out₀ counts₀ s₀ from₀ i₀ out counts s from i = n - i
 
 loop-again : tie.Need-loop-again Inv-loop μ-loop
 loop-again c =
@@ -35,8 +36,9 @@ loop-again c =
     let next = c .most .ensures in (
       omega (arith, c .before .before .before .before .before .before .before .before .before .before .loop-test .taken),
       omega (arith, next, l .inv .1),
-      omega (arith, c .before .before .before .before .before .show-gap .ensures .1, l .inv .2, bound-grows {x = l .from} {y = c .most .result} (omega (arith, next)) alloc, bound-grows {x = getD w (2 * l .i) 0} {y = c .most .result} (omega (arith, next, fair, l .inv .1)) alloc),
+      omega (arith, c .before .before .before .before .before .show-gap .ensures .1 .0, l .inv .2, bound-grows {x = l .from} {y = c .most .result} (omega (arith, next)) alloc, bound-grows {x = getD w (2 * l .i) 0} {y = c .most .result} (omega (arith, next, fair, l .inv .1)) alloc),
       rw next (turn (l .inv .3) (c .before .before .before .before .before .show-gap .ensures .0) (gaps-next alloc w (a .n) (l .i) (l .from) (a .h .buckets) small (c .before .before .before .before .before .before .before .before .before .before .loop-test .taken))),
+      c .before .before .before .before .before .show-gap .ensures .1 .1,
     )
 
 returns : tie.Need-returns Inv-loop μ-loop
@@ -44,7 +46,7 @@ returns c =
     let a = c .before .before .before .before .before .before .before .before .before .before .before .before .before .before .args in
     let l = c .before .before .before .before .before .before .before .before .loop in (
       last (turn (l .inv .3) (c .before .before .before .before .show-gap2 .ensures .0) (gaps-last (bookOf (a .book .now) .alloc) (a .work .now) (a .n) (l .i) (l .from) (a .h .buckets) (c .before .before .before .before .before .before .before .loop-test .left))) refl,
-      omega (arith, c .before .before .before .before .show-gap2 .ensures .1, l .inv .0, l .inv .2, c .before .before .before .before .before .before .before .before .before .before .before .before .before .before .pre .1, alloc-bound (c .before .before .before .before .before .before .before .before .before .before .before .before .before .before .pre .0) (l .from), alloc-bound (c .before .before .before .before .before .before .before .before .before .before .before .before .before .before .pre .0) (a .h .buckets)),
+      omega (arith, c .before .before .before .before .show-gap2 .ensures .1 .0, l .inv .0, l .inv .2, c .before .before .before .before .before .before .before .before .before .before .before .before .before .before .pre .1, alloc-bound (c .before .before .before .before .before .before .before .before .before .before .before .before .before .before .pre .0) (l .from), alloc-bound (c .before .before .before .before .before .before .before .before .before .before .before .before .before .before .pre .0) (a .h .buckets)),
     )
 
 pub show-gaps-spec : {M : Type 1} → statement M
@@ -54,19 +56,19 @@ show-gaps-spec =
     Inv-loop
     μ-loop
     (λ c. search needs)
-    (λ c. (omega arith, omega arith, omega arith, first))
+    (λ c. (omega arith, omega arith, omega arith, first, omega arith))
     (λ c. search needs)
     (λ c. search needs)
     (λ c. search needs)
     (λ c. search needs)
     (λ c. search needs)
     (λ c. search needs)
-    (λ c κs. (c .before .before .before .before .before .before .before .before .before .before .before .pre .0, omega (arith, c .before .before .before .before .before .loop .inv .0, c .before .before .before .before .before .loop .inv .2, c .before .before .before .before .before .before .before .before .before .before .before .pre .2, alloc-bound (c .before .before .before .before .before .before .before .before .before .before .before .pre .0) (c .before .before .before .before .before .loop .from), c .before .before .before .before .before .before .before .before .before .before .before)))
+    (λ c κs. (c .before .before .before .before .before .before .before .before .before .before .before .pre .0, omega (arith, c .before .before .before .before .before .loop .inv .0, c .before .before .before .before .before .loop .inv .2, c .before .before .before .before .before .before .before .before .before .before .before .pre .2, alloc-bound (c .before .before .before .before .before .before .before .before .before .before .before .pre .0) (c .before .before .before .before .before .loop .from), c .before .before .before .before .before .before .before .before .before .before .before), c .before .before .before .before .before .loop .inv .4))
     (λ c κs. search needs)
     (λ c. search needs)
     (λ c. search needs)
     loop-again
-    (λ c κs. (c .before .before .before .before .before .before .before .before .before .pre .0, omega (arith, c .before .before .before .loop .inv .0, c .before .before .before .loop .inv .2, c .before .before .before .before .before .before .before .before .before .pre .2, alloc-bound (c .before .before .before .before .before .before .before .before .before .pre .0) (c .before .before .before .loop .from), c .before .before .before .before .before .before .before .before .before)))
-    (λ c. omega (arith, begun-length (c .before .before .before .before .before .before .before .before .loop .inv .3), c .before .before .before .before .show-gap2 .kept .1 .1 .1 .1 .1 .0))
-    (λ c. omega (arith, begun-counts (c .before .before .before .before .before .before .before .before .loop .inv .3), c .before .before .before .before .show-gap2 .kept .1 .1 .1 .1 .1 .0))
+    (λ c κs. (c .before .before .before .before .before .before .before .before .before .pre .0, omega (arith, c .before .before .before .loop .inv .0, c .before .before .before .loop .inv .2, c .before .before .before .before .before .before .before .before .before .pre .2, alloc-bound (c .before .before .before .before .before .before .before .before .before .pre .0) (c .before .before .before .loop .from), c .before .before .before .before .before .before .before .before .before), c .before .before .before .loop .inv .4))
+    (λ c. omega (arith, begun-length (c .before .before .before .before .before .before .before .before .loop .inv .3), c .before .before .before .before .show-gap2 .kept .1 .1 .1 .1 .1 .1 .0))
+    (λ c. omega (arith, begun-counts (c .before .before .before .before .before .before .before .before .loop .inv .3), c .before .before .before .before .show-gap2 .kept .1 .1 .1 .1 .1 .1 .0))
     returns)

@@ -17,30 +17,30 @@ use Rattle.buckets.proofs.take_run.Tie as tie
 
 returns : tie.Need-returns
 returns c =
-    let a = c .before .before .before .before .before .before .before .before .before .before .before .before .before .before .before .before .before .before .before .args in
+    let a = c .before .before .before .before .before .before .before .before .before .before .before .before .before .before .before .before .before .before .before .before .args in
     let s = a .book .now in
-    let pre = c .before .before .before .before .before .before .before .before .before .before .before .before .before .before .before .before .before .before .before .pre in
-    let test = at-is (pre .1) 11 25 in
+    let pre = c .before .before .before .before .before .before .before .before .before .before .before .before .before .before .before .before .before .before .before .before .pre in
+    let test = at-is (pre .2) 11 25 in
     let taken = c .before .before .before .before .before .before .before .before .before .before .before .before .if1 .taken in
     let head = c .before .before .before .before .before .before .before .before .before .before .before .key-head in
     let shown = added-as (ap (λ (h : KeyHead). runFindings (bookOf s) (keyOf s h)) (head .ensures)) (c .before .before .before .before .before .before .before .before .show-run .ensures .0) in
     let pair = run-pair s (parts (pre .0) .header) (head .result) (a .p) (head .ensures) (sym test ∙ taken) in (
       added-only test taken shown,
-      (c .before .before .put-run .ensures .0 ∙ ap (λ (l : List ℕ). pairsOf (a .work .now) (a .c .put) ++ l) pair, (c .before .before .before .before .before .before .before .before .show-run .ensures .1, c .before .before .put-run .ensures .1)),
+      (c .before .before .put-run .ensures .0 ∙ ap (λ (l : List ℕ). pairsOf (a .work .now) (a .c .put) ++ l) pair, (c .before .before .before .before .before .before .before .before .show-run .ensures .1 .0, c .before .before .put-run .ensures .1, c .before .before .before .before .before .before .before .before .show-run .ensures .1 .1)),
     )
 
 returns-2 : tie.Need-returns-2
 returns-2 c =
-    let a = c .before .before .before .before .before .before .before .args in
-    let test = at-is (c .before .before .before .before .before .before .before .pre .1) 11 25 in
+    let a = c .before .before .before .before .before .before .before .before .args in
+    let test = at-is (c .before .before .before .before .before .before .before .before .pre .2) 11 25 in
     let none = no-pair (bookOf (a .book .now)) (a .p) _ (sym test ∙ c .if1 .left) in
-    (added-not _ test (c .if1 .left), (rw (none, append-nil (pairsOf (a .work .now) (a .c .put))), (omega arith, omega arith)))
+    (added-not _ test (c .if1 .left), (rw (none, append-nil (pairsOf (a .work .now) (a .c .put))), (omega arith, omega arith, omega arith)))
 
 pub take-run-spec : {M : Type 1} → statement M
 take-run-spec =
     tie.close
     (tie.spec
-    (λ c κs. (c .before .before .before .before .before .before .before .pre .1 .small, omega (arith, at-end (c .before .before .before .before .before .before .before .pre .1), c .before .before .before .before .before .before .before .pre .1 .inside)))
+    (λ c κs. (c .before .before .before .before .before .before .before .before .pre .2 .small, omega (arith, at-end (c .before .before .before .before .before .before .before .before .pre .2), c .before .before .before .before .before .before .before .before .pre .2 .inside)))
     (λ c κs. search needs)
     (λ c κs. search needs)
     (λ c. search needs)

@@ -16,17 +16,18 @@ use Rattle.buckets.proofs.take_runs.Statement.{statement}
 use Rattle.buckets.proofs.take_runs.Tie as tie
 
 abbrev Inv-loop : tie.InvT-loop
-Inv-loop book h at out₀ counts₀ work₀ c₀ left₀ p₀ out counts work c left p =
+Inv-loop book h at marks out₀ counts₀ work₀ c₀ left₀ p₀ out counts work c left p =
     (c .found + left ≤ h .keys) × Gathered (runPair (bookOf book)) book left₀ p₀ work (c .put) left p × (length work ≡ length work₀)
     × Walk (λ _ k. only (isRun k) (runFindings (bookOf book) k)) (bookOf book .keys) (sink out₀ counts₀) 0 (keysFrom book left p) (c .found) (sink out counts)
+    × (c .near ≤ h .alloc)
 
 abbrev μ-loop : tie.MeasureT-loop
-μ-loop book h at out₀ counts₀ work₀ c₀ left₀ p₀ out counts work c left p = left
+μ-loop book h at marks out₀ counts₀ work₀ c₀ left₀ p₀ out counts work c left p = left
 
 loop-holds : tie.Need-loop-holds Inv-loop μ-loop
 loop-holds c =
-    let o = parts (c .before .before .before .before .pre .0) in
-    (omega arith, none-yet (o .keys-fit), refl, rw (o .keys) first)
+    let o = parts (c .before .before .before .before .before .pre .0) in
+    (omega arith, none-yet (o .keys-fit), refl, rw (o .keys) first, omega arith)
 
 loop-again : tie.Need-loop-again Inv-loop μ-loop
 loop-again c =
@@ -34,11 +35,12 @@ loop-again c =
     let left = c .before .before .before .before .before .before .before .before .before .before .before .before .loop-test .taken in
     let front = c .before .before .before .before .before .before .before .before .before .before .before .key-front .ensures in
     let taken = c .before .before .before .before .before .before .before .take-run .ensures in
-    let ends = at-end (at-key (parts (c .before .before .before .before .before .before .before .before .before .before .before .before .before .before .before .before .before .before .pre .0) .small) left (l .1 .fit) front) in (
+    let ends = at-end (at-key (parts (c .before .before .before .before .before .before .before .before .before .before .before .before .before .before .before .before .before .before .before .pre .0) .small) left (l .1 .fit) front) in (
       omega (arith, l .0, left, taken .1 .1 .0),
       one-more (l .1) left (taken .1 .1 .1) (taken .1 .0) ends,
       search needs,
       turn-keys-any _ _ _ _ left (l .1 .fit) front (λ i k. refl) (l .3) (taken .0),
+      taken .1 .1 .2,
     )
 
 returns : tie.Need-returns Inv-loop μ-loop
@@ -53,10 +55,10 @@ take-runs-spec =
     Inv-loop
     μ-loop
     loop-holds
-    (λ c κs. omega (arith, parts (c .before .before .before .before .before .before .pre .0) .small, step _ _ _ (c .loop-test .taken) (c .before .loop .inv .1 .fit) .head))
-    (λ c κs. (c .before .before .before .before .before .before .before .before .before .before .pre .0, at-key (parts (c .before .before .before .before .before .before .before .before .before .before .pre .0) .small) (c .before .before .before .before .loop-test .taken) (c .before .before .before .before .before .loop .inv .1 .fit) (c .before .before .before .key-front .ensures), omega (arith, c .before .before .before .before .before .loop .inv .0), omega (arith, c .before .before .before .before .before .loop .inv .1 .few, c .before .before .before .before .before .loop .inv .2, c .before .before .before .before .loop-test .taken, c .before .before .before .before .before .before .before .before .before .before .pre .1)))
-    (λ c. let k = at-key (parts (c .before .before .before .before .before .before .before .before .before .before .before .before .before .before .before .before .before .pre .0) .small) (c .before .before .before .before .before .before .before .before .before .before .before .loop-test .taken) (c .before .before .before .before .before .before .before .before .before .before .before .before .loop .inv .1 .fit) (c .before .before .before .before .before .before .before .before .before .before .key-front .ensures) in omega (arith, at-end k, k .inside, k .small))
-    (λ c. let k = at-key (parts (c .before .before .before .before .before .before .before .before .before .before .before .before .before .before .before .before .before .before .pre .0) .small) (c .before .before .before .before .before .before .before .before .before .before .before .before .loop-test .taken) (c .before .before .before .before .before .before .before .before .before .before .before .before .before .loop .inv .1 .fit) (c .before .before .before .before .before .before .before .before .before .before .before .key-front .ensures) in omega (arith, at-end k, k .inside, k .small))
+    (λ c κs. omega (arith, parts (c .before .before .before .before .before .before .before .pre .0) .small, step _ _ _ (c .loop-test .taken) (c .before .loop .inv .1 .fit) .head))
+    (λ c κs. (c .before .before .before .before .before .before .before .before .before .before .before .pre .0, c .before .before .before .before .before .before .before .before .before .before .before .pre .1, at-key (parts (c .before .before .before .before .before .before .before .before .before .before .before .pre .0) .small) (c .before .before .before .before .loop-test .taken) (c .before .before .before .before .before .loop .inv .1 .fit) (c .before .before .before .key-front .ensures), omega (arith, c .before .before .before .before .before .loop .inv .0), omega (arith, c .before .before .before .before .before .loop .inv .1 .few, c .before .before .before .before .before .loop .inv .2, c .before .before .before .before .loop-test .taken, c .before .before .before .before .before .before .before .before .before .before .before .pre .2), c .before .before .before .before .before .loop .inv .4))
+    (λ c. let k = at-key (parts (c .before .before .before .before .before .before .before .before .before .before .before .before .before .before .before .before .before .before .pre .0) .small) (c .before .before .before .before .before .before .before .before .before .before .before .loop-test .taken) (c .before .before .before .before .before .before .before .before .before .before .before .before .loop .inv .1 .fit) (c .before .before .before .before .before .before .before .before .before .before .key-front .ensures) in omega (arith, at-end k, k .inside, k .small))
+    (λ c. let k = at-key (parts (c .before .before .before .before .before .before .before .before .before .before .before .before .before .before .before .before .before .before .before .pre .0) .small) (c .before .before .before .before .before .before .before .before .before .before .before .before .loop-test .taken) (c .before .before .before .before .before .before .before .before .before .before .before .before .before .loop .inv .1 .fit) (c .before .before .before .before .before .before .before .before .before .before .before .key-front .ensures) in omega (arith, at-end k, k .inside, k .small))
     (λ c. omega (arith, c .before .before .before .before .before .before .before .before .before .before .before .before .loop-test .taken))
     (λ c. omega (arith, c .before .before .before .before .before .before .before .before .before .before .before .before .loop-test .taken))
     loop-again

@@ -4,7 +4,7 @@ use mathlib.Core.Path.{_≡_, sym, _∙_}
 use mathlib.Core.Logic.{⊎-elim}
 use denote.Ref.{now}
 use lib.ListN.{length}
-use Rattle.search.proofs.Bracket.{Sized, middle, sized-all, sized-up, sized-down, sized-at, sized-closed}
+use Rattle.search.proofs.Bracket.{Sized, middle, sized-window, sized-up, sized-down, sized-at, sized-closed}
 use Rattle.book.specs.Walk.{firstAt}
 use Rattle.book.proofs.Tables.{first-be}
 use Rattle.tables.proofs.Found.{rising-first, entry-inside}
@@ -20,19 +20,19 @@ abbrev μ-loop : tie.MeasureT-loop
 μ-loop book t start count bucket base₀ size₀ base size = size
 
 -- the first field in the middle
-here : (c : tie.After-be64 Inv-loop μ-loop) → let l = c .before .before .before in let a = l .before .before .args in
+here : (c : tie.After-be64 Inv-loop μ-loop) → let l = c .before .before .before in let a = l .before .before .before .args in
     c .be64 .result ≡ firstAt (a .t) (now (a .book)) (a .start) (middle (l .loop .base) (l .loop .size))
 here c =
     let l = c .before .before .before in
-    let a = l .before .before .args in
-    c .be64 .ensures ∙ sym (first-be (a .t) (now (a .book)) (λ j. l .before .shared-slice-known .given j .fits)
-    (a .start + middle (l .loop .base) (l .loop .size) * a .t .size) 8 (l .before .before .pre .0))
+    let a = l .before .before .before .args in
+    c .be64 .ensures ∙ sym (first-be (a .t) (now (a .book)) (λ j. l .before .before .shared-slice-known .given j .fits)
+    (a .start + middle (l .loop .base) (l .loop .size) * a .t .size) 8 (l .before .before .before .pre .0))
 
 loop-again : tie.Need-loop-again Inv-loop μ-loop
 loop-again c =
     let r = c .before .before in
     let l = r .before .before .before in
-    let up = l .before .before .pre .2 in
+    let up = l .before .before .before .pre .2 in
     ⊎-elim
     (λ t. sized-at (up .rises) (l .loop .inv) (omega arith) (sym (here r) ∙ t .0 .taken) (t .1))
     (λ t. ⊎-elim
@@ -42,9 +42,9 @@ loop-again c =
     (c .if2 .came)
 
 -- the entry in the middle lies within the bytes
-inside : (c : tie.In-loop Inv-loop μ-loop) → let l = c .before in let a = l .before .before .args in
+inside : (c : tie.In-loop Inv-loop μ-loop) → let l = c .before in let a = l .before .before .before .args in
     a .start + middle (l .loop .base) (l .loop .size) * a .t .size + a .t .size ≤ length (now (a .book))
-inside c = let l = c .before in entry-inside (l .before .before .pre .2) (middle (l .loop .base) (l .loop .size)) (omega arith)
+inside c = let l = c .before in entry-inside (l .before .before .before .pre .2) (middle (l .loop .base) (l .loop .size)) (omega arith)
 
 pub lower-bound64-spec : {M : Type 1} → statement M
 lower-bound64-spec =
@@ -52,7 +52,8 @@ lower-bound64-spec =
     (tie.spec
     Inv-loop
     μ-loop
-    (λ c. sized-all _ _ _)
+    (λ c. omega (arith, c .before .before .pre .3 .ordered))
+    (λ c. sized-window (c .before .before .pre .3))
     (λ c. search needs)
     (λ c. search needs)
     (λ c. omega (arith, inside (c .before)))
