@@ -1,6 +1,6 @@
 /*
- * stack BOOK ..: how much stack the three entries take, over the book files that are named and over two books made
- * here. Each call runs in a thread whose stack held one byte everywhere; from the lowest byte that is another one
+ * stack BOOK ..: how much stack the three entries take, over the book files that are named and over three books
+ * made here. Each call runs in a thread whose stack held one byte everywhere; from the lowest byte that is another one
  * afterwards up to the calling function, the stack was taken. Writes the most that a call took; where that is more than
  * DOCKWRENCH_STACK of include/dockwrench.h, the exit status is 1.
  */
@@ -14,6 +14,7 @@
 
 #define LINKS 1024
 #define KEYS 37448 /* without values, in the longest book */
+#define ALLOC 520  /* alloc entries enough for the rule on free runs to mark them, in the place of half as many keys */
 #define FILL 0xa5
 
 static uint8_t findings[DOCKWRENCH_FINDING_BYTES];
@@ -65,14 +66,15 @@ static void measure(void) {
 /* ---- the books */
 
 /* A header of version 1,063 with the trees mark, for device 0 and 2^40 buckets. */
-static void header(unsigned key_count, unsigned parents) {
+static void header(unsigned key_count, unsigned parents, unsigned alloc) {
     end = 0;
     be(4, 0x18000427);
     be(4, key_count);
     be(8, 0);
     be(8, (uint64_t)1 << 40);
     be(2, parents);
-    be(6, 0);
+    be(4, 0);
+    be(2, alloc);
 }
 
 static void key(unsigned btree, unsigned type, unsigned value_length, uint32_t size, uint64_t offset) {
@@ -87,7 +89,7 @@ static void key(unsigned btree, unsigned type, unsigned value_length, uint32_t s
 
 /* Snapshots 1 to LINKS + 1, each the parent of the next, all of tree 1: the longest chain that has a root. */
 static void chain(void) {
-    header(LINKS + 2, LINKS + 1);
+    header(LINKS + 2, LINKS + 1, 0);
     for (uint32_t id = 1; id <= LINKS + 1; id++)
         be(8, (uint64_t)id << 32 | (id - 1));
     key(15, 31, 8, 0, 1);
@@ -101,12 +103,17 @@ static void chain(void) {
     }
 }
 
-/* As many free runs as a book holds, too far apart to be sorted by digits, and in an order that medians part badly: the
-   sort goes as deep as it may. */
-static void runs(void) {
-    header(KEYS, 0);
-    for (uint64_t i = 0; i < KEYS; i++)
-        key(11, 25, 0, 1, ((4 * (i % (KEYS / 4)) + i / (KEYS / 4)) << 20) + 1);
+/* As many free runs as a book holds beside so many alloc entries, too far apart to be sorted by digits, and in an order
+   that medians part badly: the sort goes as deep as it may. */
+static void runs(unsigned alloc) {
+    uint64_t keys = KEYS - alloc / 2;
+    header(keys, 0, alloc);
+    for (uint64_t bucket = 0; bucket < alloc; bucket++) {
+        be(8, bucket);
+        be(2, 0);
+    }
+    for (uint64_t i = 0; i < keys; i++)
+        key(11, 25, 0, 1, ((4 * (i % (keys / 4)) + i / (keys / 4)) << 20) + 1);
 }
 
 static void read_book(const char *name) {
@@ -120,7 +127,9 @@ static void read_book(const char *name) {
 int main(int argc, char **argv) {
     chain();
     measure();
-    runs();
+    runs(0);
+    measure();
+    runs(ALLOC);
     measure();
     for (int i = 1; i < argc; i++) {
         read_book(argv[i]);

@@ -157,6 +157,11 @@ fn speed(named: &str) -> Option<bool> {
     table("book");
     let rows = speed::rows().into_iter().filter(|(name, _)| name.contains(named));
     let is_ahead = rows.fold(true, |is_ahead, (name, book)| row(name, &book) && is_ahead);
+    println!();
+    table("long tables");
+    for (name, book) in speed::tables().into_iter().filter(|(name, _)| name.contains(named)) {
+        row(name, &book);
+    }
     if named.is_empty() {
         println!();
         table("mixed book, KiB");

@@ -31,8 +31,44 @@ pub fn rows() -> Vec<(&'static str, Book)> {
     ]
 }
 
+/// Books with long alloc and gens tables, which a walk or a search for each key would make slow; nothing is to find in them.
+pub fn tables() -> Vec<(&'static str, Book)> {
+    vec![
+        ("18,700 runs over the same 52,000 alloc entries", runs_over_alloc()),
+        ("25,000 runs of a bucket, used buckets between", spaced_runs(25_000, 1)),
+        ("10,000 runs of three buckets, used buckets between", spaced_runs(10_000, 3)),
+        ("200 bucket_gens keys, 51,200 generations", generations(200, 1)),
+        ("1,800 bucket_gens keys, generations nine buckets apart", generations(1_800, 9)),
+    ]
+}
+
 fn empty() -> Book {
     Book { mark: true, version: VERSION, ..Book::default() }
+}
+
+/// Runs that all hold all buckets, each of which has an alloc entry without a type.
+fn runs_over_alloc() -> Book {
+    let buckets = 52_000;
+    let run = Key { size: buckets, ..key(FREESPACE, T_SET, 0, u64::from(buckets), Vec::new()) };
+    let alloc = (0..u64::from(buckets)).map(|bucket| (bucket, None)).collect();
+    Book { buckets: u64::from(buckets), alloc, keys: vec![run; 18_700], ..empty() }
+}
+
+/// So many runs of `size` buckets, each followed by a bucket in use, the only ones with an alloc entry.
+fn spaced_runs(count: u64, size: u32) -> Book {
+    let step = u64::from(size) + 1;
+    let run = |i: u64| Key { size, ..key(FREESPACE, T_SET, 0, step * i + u64::from(size), Vec::new()) };
+    let alloc = (0..count).map(|i| (step * i + u64::from(size), Some(1))).collect();
+    Book { buckets: step * count, alloc, keys: (0..count).map(run).collect(), ..empty() }
+}
+
+/// So many bucket_gens keys, and a gens table that agrees with them and has one in every `apart` buckets.
+fn generations(count: u64, apart: u64) -> Book {
+    let generation = |bucket: u64| if bucket % apart == 0 { (bucket % 255) as u8 + 1 } else { 0 };
+    let value = |offset: u64| (0..256).map(|i| generation(256 * offset + i)).collect();
+    let keys = (0..count).map(|offset| key(BUCKET_GENS, T_BUCKET_GENS, 0, offset, value(offset))).collect();
+    let gens = (0..256 * count).step_by(apart as usize).map(|bucket| (bucket, generation(bucket))).collect();
+    Book { gens, keys, ..empty() }
 }
 
 /// Runs of four buckets each that hold all buckets, so that there is nothing to find.
