@@ -1,6 +1,6 @@
 -- `buckets::next_gen` meets its contract: at the place of the bucket stands an entry with it, or the table has none.
 use Prim.Native.Nat.{ℕ, _+_, _*_, _<_}
-use mathlib.Core.Path.{_≡_, refl, sym, _∙_}
+use mathlib.Core.Path.{_≡_, refl, sym, ap, _∙_}
 use denote.Ref.{now}
 use lib.ListN.{getD}
 use Rattle.bits.proofs.Laws.{be-one}
@@ -35,7 +35,7 @@ returns-2 c =
     let here : firstAt gensTable s (a .start) (a .at) ≡ a .bucket = first-be gensTable s (bytes k) (a .start + a .at * 9) 8 refl ∙ sym (c .before .before .be64 .ensures) ∙ c .before .if2 .taken in
     let inside : a .at < a .count = omega (arith, p .1 .inside) in (
       rw (found-at wholeRest gensTable s (a .count) (a .start) (a .bucket) (a .at) (p .1) (p .0) inside here)
-          (sym (be-one s (a .start + a .at * 9 + 8)) ∙ sym (rest-be gensTable s (bytes k) (a .start + a .at * 9) 8 refl 1 refl)),
+          (ap (λ (i : ℕ). getD s i 0) (omega arith) ∙ sym (be-one s (a .start + a .at * 9 + 8)) ∙ sym (rest-be gensTable s (bytes k) (a .start + a .at * 9) 8 refl 1 refl)),
       place-past (p .0) (a .bucket) (a .at) (p .1) inside here,
     )
 
