@@ -109,6 +109,7 @@ static const char *const refusals[] = {
     "there is a snapshot tree key, but the trees mark is clear",
     "there are bytes after the last key",
     "the work area is short",
+    [12] = "the drawn mark is set, but there is a parents table",
 };
 
 /* Calls with room for one finding, since most books have none, and once more with room for all of them if they did not fit. */

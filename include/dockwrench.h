@@ -44,23 +44,33 @@ extern "C" {
  *    4   an entry, key head or value runs past the end     where the entry starts
  *    5   a spare bit, or a data type without has-type      where the entry starts
  *    6   a first field not above the one before            where the entry starts
- *    7   a key of btree 15, though the mark is clear       where the key starts
+ *    7   a key of btree 15 without the trees mark          where the key starts
  *    8   bytes after the last key                          the first of them
  *    9   work area short: under two words a key            place 0
+ *   12   a parents table with the drawn mark               place 0
  *
- * with count() 0, and both areas are untouched. The first that applies is given: 1, 2, 3; then entries and keys from
- * front to back, at each 4, 5, 6, 7 before the next is looked at; then 8, 9.
+ * with count() 0, and both areas are untouched. The first that applies is given: 1, 2, 3, 12; then entries and keys
+ * from front to back, at each 4, 5, 6, 7 before the next is looked at; then 8, 9.
+ *
+ * The parents of snapshots are those of the parents table, or in a drawn book (dockwrench_drawn) those that the keys
+ * name: each key of btree 9 and type 22 with 8 value bytes or more gives the id in its offset's low 32 bits the parent
+ * in bytes 4 to 7 of its value, least significant first. Of keys with one id the last gives the parent.
  */
 uint64_t dockwrench_check(const uint8_t *book, size_t bytes, uint8_t *findings, size_t room, uint64_t *work, size_t words);
 
 /*
- * The root above a snapshot id, by the book's parents table: number 0, root() and links(), the number of parent links followed, from 0 to
- * 1,024; or number 11, where no such number of links leads to a root; or a refusal 1 to 8 as above. What has no meaning is zero.
+ * The root above a snapshot id, by the book's parents: number 0, root() and links(), the number of parent links
+ * followed, from 0 to 1,024; or number 11, where no such number of links leads to a root; or a refusal 1 to 8 or 12 as
+ * above. What has no meaning is zero.
+ *
+ * Over a drawn book whose snapshots stand in rising order of id, with ids that rise towards the root, a call costs
+ * about one pass over the keys. In any other order it may cost a pass for each link, of which there are 1,024 at most.
  */
 uint64_t dockwrench_ancestor(const uint8_t *book, size_t bytes, uint32_t id);
 
 /*
- * Whether a subvolume id is unavailable, by the state words of the book's keys: number 0 and yes(), which is 1 or 0; or a refusal 1 to 8.
+ * Whether a subvolume id is unavailable, by the state words of the book's keys: number 0 and yes(), which is 1 or 0; or
+ * a refusal 1 to 8 or 12. What has no meaning is zero.
  */
 uint64_t dockwrench_unavailable(const uint8_t *book, size_t bytes, uint32_t id);
 
@@ -79,6 +89,9 @@ static inline size_t dockwrench_words(const uint8_t *book, size_t bytes) {
 
 /* Whether the trees mark is set: the chains of snapshots are judged only then. 0 for bytes too few for a header. */
 static inline int dockwrench_trees(const uint8_t *book, size_t bytes) { return bytes < 32 ? 0 : book[0] >> 3 & 1; }
+
+/* Whether the drawn mark is set: the parents are those that the keys name. 0 for bytes too few for a header. */
+static inline int dockwrench_drawn(const uint8_t *book, size_t bytes) { return bytes < 32 ? 0 : book[0] >> 2 & 1; }
 
 /* A finding taken apart, from its first byte. Of kinds 23 and 26 the object is a state word: that of the known state that is nearest to the key's. */
 static inline uint64_t dockwrench_word(const uint8_t *at) {

@@ -13,6 +13,8 @@
 
 #define GUARD 40 /* bytes, and words, behind what is lent */
 #define LONGEST 256
+#define DRAWN 0x0400 /* the drawn mark, in the first two bytes of the header */
+#define SPARE 10     /* bits, the lowest of these two bytes */
 
 static unsigned long calls;
 static int by_null; /* what has no bytes or words is lent as a null pointer */
@@ -106,6 +108,19 @@ static struct book tables(void) {
     return book;
 }
 
+/* Snapshots 5 and 7, whose values are too short but hold what is drawn from them: their parents, 7 and 0. */
+static struct book drawn(void) {
+    struct book book;
+    header(&book, 0x1000 | DRAWN, 1062, 0, 0x20000);
+    for (unsigned id = 5; id <= 7; id += 2) {
+        finding(&book, 5, book.count, 0);
+        key(&book, 9, 22, 8, id);
+        be(&book, 4, 0);
+        be(&book, 4, id == 5 ? 7u << 24 : 0); /* least significant byte first */
+    }
+    return book;
+}
+
 /* A book without keys that has a finding: bucket 3 has a generation that no key records. */
 static struct book generation(void) {
     struct book book;
@@ -116,21 +131,24 @@ static struct book generation(void) {
     return book;
 }
 
-/* Books for the refusals 3 to 8. */
+/* Books for the refusals 3 to 8 and 12. */
 static struct book refused(unsigned number) {
     struct book book;
-    header(&book, number == 3 ? 0x1001 : 0x1000, 0, 0, number == 6 ? 0x02000 : number == 8 ? 0 : 0x10000);
+    unsigned counts = number == 6 ? 0x02000 : number == 8 ? 0 : number == 12 ? 0x01000 : 0x10000;
+    header(&book, number == 3 ? 0x1001 : number == 12 ? 0x1000 | DRAWN : 0x1000, 0, 0, counts);
     if (number == 6) {
         be(&book, 8, 5ull << 32);
         be(&book, 8, 5ull << 32);
     } else if (number == 8) {
         be(&book, 1, 0);
+    } else if (number == 12) {
+        be(&book, 8, 5ull << 32);
     } else if (number != 4) {
         key(&book, number == 7 ? 15 : 0, 0, 0, 0);
         book.bytes[35] = number == 5;
     }
     book.number = number;
-    book.place = number == 3 ? 0 : number == 6 ? 40 : 32;
+    book.place = number == 3 || number == 12 ? 0 : number == 6 ? 40 : 32;
     return book;
 }
 
@@ -256,6 +274,14 @@ static void lengths(void) {
         check(&book, 0, 0, 0);
     }
     done("books of 0 to 31 bytes");
+    book = refused(12);
+    book.number = 2;
+    for (book.length = 0; book.length < 32; book.length++)
+        entries(&book, 0);
+    book.number = 12;
+    for (book.length = 32; book.length < 40; book.length++)
+        entries(&book, 0);
+    done("a drawn book with a parent, cut to 0 to 39 bytes");
     book = listing();
     book.number = 4;
     book.place = 32;
@@ -266,7 +292,8 @@ static void lengths(void) {
 
 /* Null for what is empty: the book, and either area or both, over books that are judged and that are refused. */
 static void nulls(void) {
-    struct book books[] = {empty(), listing(), tables(), generation(), refused(3), refused(4), refused(8), empty()};
+    struct book books[] = {empty(),    listing(),  tables(),   drawn(),     generation(),
+                           refused(3), refused(4), refused(8), refused(12), empty()};
     struct book *none = &books[sizeof books / sizeof *books - 1];
     none->length = 0;
     none->number = 2;
@@ -277,40 +304,52 @@ static void nulls(void) {
         check(book, 0, sizeof book->findings, 0);
         entries(book, 0);
     }
-    HOLD(dockwrench_words(NULL, 0) == 0 && dockwrench_trees(NULL, 0) == 0);
+    HOLD(dockwrench_words(NULL, 0) == 0 && dockwrench_trees(NULL, 0) == 0 && dockwrench_drawn(NULL, 0) == 0);
     by_null = 0;
     done("null for what is empty");
 }
 
-static void longest(void) {
-    uint8_t *book = calloc(DOCKWRENCH_BOOK_MAX + 1, 1), findings[17] = {1};
+/* A book of the longest length, which is refused by `number`, and one byte more. */
+static void longest(uint8_t *book, unsigned number) {
+    uint8_t findings[17] = {1};
     uint64_t work[1] = {1};
-    HOLD(book);
     for (size_t bytes = DOCKWRENCH_BOOK_MAX; bytes <= DOCKWRENCH_BOOK_MAX + 1; bytes++) {
-        uint64_t answer = (uint64_t)(bytes == DOCKWRENCH_BOOK_MAX ? 3 : 1) << 56;
+        uint64_t answer = (uint64_t)(bytes == DOCKWRENCH_BOOK_MAX ? number : 1) << 56;
         HOLD(dockwrench_check(book, bytes, findings, 17, work, 1) == answer);
         HOLD(dockwrench_ancestor(book, bytes, 0) == answer && dockwrench_unavailable(book, bytes, 0) == answer);
         HOLD(findings[0] == 1 && work[0] == 1);
         calls += 3;
     }
-    free(book);
+}
+
+static void longest_books(void) {
+    struct book start = refused(12);
+    uint8_t *book = calloc(DOCKWRENCH_BOOK_MAX + 1, 1);
+    HOLD(book);
+    longest(book, 3);
     done("1,048,576 zeros and one more");
+    memcpy(book, start.bytes, start.length);
+    longest(book, 12);
+    done("a drawn book with a parent, of 1,048,576 bytes and one more");
+    free(book);
 }
 
 static void addresses(void) {
-    struct book books[] = {empty(), listing(), tables(), refused(5), refused(6)};
+    struct book books[] = {empty(), listing(), tables(), drawn(), refused(5), refused(6), refused(12)};
     for (size_t shift = 0; shift < 16; shift++) {
         for (size_t i = 0; i < sizeof books / sizeof *books; i++)
             entries(&books[i], shift);
-        ask(&books[2], shift, 5, 7, 1, 0);
-        ask(&books[2], shift, 7, 7, 0, 0);
-        ask(&books[2], shift, 9, 0, 9999, 1);
+        for (int i = 2; i < 4; i++) { /* parents in a table, and drawn */
+            ask(&books[i], shift, 5, 7, 1, 0);
+            ask(&books[i], shift, 7, 7, 0, 0);
+            ask(&books[i], shift, 9, 0, 9999, i == 2);
+        }
     }
     done("books and buffers at 0 to 15 bytes behind an aligned address");
 }
 
 static void work_areas(void) {
-    struct book books[] = {empty(), listing(), tables(), refused(8)};
+    struct book books[] = {empty(), listing(), tables(), drawn(), refused(8), refused(12)};
     for (size_t i = 0; i < sizeof books / sizeof *books; i++) {
         for (size_t words = 0; words <= 40; words++) {
             check(&books[i], 0, sizeof books[i].findings, words);
@@ -334,19 +373,20 @@ static void findings_buffers(void) {
     done("the listing's book, findings buffers of 34 to 100 bytes");
 }
 
-static void refusals(void) {
-    for (unsigned number = 3; number <= 8; number++) {
-        struct book book = refused(number);
-        entries(&book, 0);
-        check(&book, 0, 0, 0);
-    }
-    done("refusals 3 to 8");
-}
-
 static void gives(struct book book, unsigned number, uint32_t place) {
     book.number = number;
     book.place = place;
     entries(&book, 0);
+    check(&book, 0, 0, 0);
+}
+
+static void refusals(void) {
+    static const unsigned numbers[] = {3, 4, 5, 6, 7, 8, 12};
+    for (size_t i = 0; i < sizeof numbers / sizeof *numbers; i++) {
+        struct book book = refused(numbers[i]);
+        gives(book, book.number, book.place);
+    }
+    done("refusals 3 to 8 and 12");
 }
 
 /* Several refusals in one book: the first entry's is given, and of one entry the first of 4, 5, 6, 7. */
@@ -372,28 +412,59 @@ static void orders(void) {
     done("the first of several refusals");
 }
 
-/* Any bytes are answered: each bit of two books is flipped in turn; a refusal leaves both areas as they were, and is the questions' too. */
-static void flips(void) {
-    struct book books[] = {listing(), tables()};
-    for (size_t bit = 0; bit < 8 * (books[0].length + books[1].length); bit++) {
-        int second = bit >= 8 * books[0].length;
-        size_t at = second ? bit - 8 * books[0].length : bit;
-        struct book book = books[second];
-        uint8_t findings[64];
-        uint64_t work[8], old = 0xa5a5a5a5a5a5a5a5;
-        book.bytes[at / 8] ^= (uint8_t)(1 << at % 8);
-        memset(findings, 0xa5, sizeof findings);
-        memset(work, 0xa5, sizeof work);
-        uint64_t answer = dockwrench_check(book.bytes, book.length, findings, sizeof findings, work, 8);
-        unsigned number = dockwrench_number(answer);
-        HOLD(number <= 10);
-        HOLD(number % 10 == 0 || (dockwrench_count(answer) == 0 && all(findings, sizeof findings, 0xa5)));
-        for (int i = 0; i < 8; i++)
-            HOLD(work[i] == (number % 10 == 0 ? 0 : old));
-        HOLD(dockwrench_number(dockwrench_unavailable(book.bytes, book.length, 9)) == (number > 8 ? 0 : number));
-        HOLD((dockwrench_ancestor(book.bytes, book.length, 5) == answer) == (number > 0 && number < 9));
-        calls += 3;
+/* Any of the spare bits beside the drawn mark and a parent: 3 is given before 12. */
+static void spare_bits(void) {
+    for (int bit = 0; bit < SPARE; bit++) {
+        struct book book = refused(12);
+        book.bytes[0] |= (uint8_t)(1 << bit >> 8);
+        book.bytes[1] |= (uint8_t)(1 << bit);
+        gives(book, 3, 0);
     }
+    done("spare bits beside the drawn mark");
+}
+
+/* The drawn mark in a book that is refused for something else, which stays so; with a parent too, 12 is given before
+   all of these but 3. */
+static void marks(void) {
+    for (unsigned number = 3; number <= 8; number++) {
+        struct book book = refused(number);
+        book.bytes[0] |= DRAWN >> 8;
+        if (number != 6) /* has parents */
+            gives(book, number, book.place);
+        book.bytes[25] = 1; /* parent */
+        gives(book, number == 3 ? 3 : 12, 0);
+    }
+    struct book book = empty();
+    book.bytes[0] |= DRAWN >> 8;
+    entries(&book, 0);
+    done("the drawn mark beside other refusals, and alone");
+}
+
+/* Any bytes are answered: a bit of a book is flipped; a refusal leaves both areas as they were, and is the questions'
+   too. */
+static void flip(struct book book, size_t bit) {
+    uint8_t findings[64];
+    uint64_t work[8], old = 0xa5a5a5a5a5a5a5a5;
+    book.bytes[bit / 8] ^= (uint8_t)(1 << bit % 8);
+    memset(findings, 0xa5, sizeof findings);
+    memset(work, 0xa5, sizeof work);
+    uint64_t answer = dockwrench_check(book.bytes, book.length, findings, sizeof findings, work, 8);
+    unsigned number = dockwrench_number(answer);
+    HOLD(number <= 10 || number == 12);
+    HOLD(number % 10 == 0 || (dockwrench_count(answer) == 0 && all(findings, sizeof findings, 0xa5)));
+    for (int i = 0; i < 8; i++)
+        HOLD(work[i] == (number % 10 == 0 ? 0 : old));
+    int by_bytes = number != 0 && number != 9 && number != 10;
+    HOLD(dockwrench_number(dockwrench_unavailable(book.bytes, book.length, 9)) == (by_bytes ? number : 0));
+    HOLD((dockwrench_ancestor(book.bytes, book.length, 5) == answer) == by_bytes);
+    calls += 3;
+}
+
+static void flips(void) {
+    struct book books[] = {listing(), tables(), drawn()};
+    for (size_t i = 0; i < sizeof books / sizeof *books; i++)
+        for (size_t bit = 0; bit < 8 * books[i].length; bit++)
+            flip(books[i], bit);
     done("each bit flipped");
 }
 
@@ -401,6 +472,7 @@ static void flips(void) {
 static void parts(void) {
     static const uint8_t finding[] = {50, 1, 2, 3, 4, 5, 6, 7, 8, 255, 254, 253, 252, 251, 250, 249, 248};
     uint8_t most[32] = {[6] = 255, [7] = 255}, marked[32] = {8}, unmarked[32] = {255 - 8};
+    uint8_t from_keys[32] = {DRAWN >> 8}, from_table[32] = {255 - (DRAWN >> 8)};
     uint64_t answer = 0x0b123456fedcba98;
     _Static_assert(DOCKWRENCH_BOOK_MAX == 1048576 && DOCKWRENCH_FINDING_BYTES == sizeof finding && DOCKWRENCH_WORDS_PER_KEY == 2, "sizes");
     HOLD(dockwrench_number(answer) == 11);
@@ -409,6 +481,8 @@ static void parts(void) {
     HOLD(!dockwrench_yes(answer) && !dockwrench_yes(0) && dockwrench_yes(1) && !dockwrench_yes((uint64_t)1 << 32));
     HOLD(dockwrench_words(most, 32) == 131070 && dockwrench_words(most, 31) == 0);
     HOLD(dockwrench_trees(marked, 32) == 1 && dockwrench_trees(unmarked, 32) == 0 && dockwrench_trees(marked, 31) == 0);
+    HOLD(dockwrench_drawn(from_keys, 32) == 1 && dockwrench_drawn(from_table, 32) == 0);
+    HOLD(dockwrench_drawn(from_keys, 31) == 0);
     HOLD(dockwrench_kind(finding) == 50);
     HOLD(dockwrench_subject(finding) == 0x0102030405060708 && dockwrench_object(finding) == 0xfffefdfcfbfaf9f8);
     done("numbers taken apart");
@@ -417,12 +491,14 @@ static void parts(void) {
 int main(void) {
     lengths();
     nulls();
-    longest();
+    longest_books();
     addresses();
     work_areas();
     findings_buffers();
     refusals();
     orders();
+    spare_bits();
+    marks();
     flips();
     parts();
     return 0;

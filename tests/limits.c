@@ -3,83 +3,28 @@
 
 #include <inttypes.h>
 #include <stdio.h>
-#include <string.h>
 
-#define HEADER 32
-#define KEY_HEAD 28
 #define LONGEST_VALUE 2047
 #define ROOM (65535 * DOCKWRENCH_FINDING_BYTES)
 #define WORDS 131070
 #define BEYOND 64 /* bytes and words past what is lent at most: no call may write there */
 #define FILL 0xa5
+#define LINKS 1024   /* to a root at most */
+#define CHAINS 15    /* of so many links in the longest book */
+#define NO_ORDER 389 /* as a stride: prime to each number of snapshots here */
 
 static uint8_t findings[ROOM + BEYOND];
 static uint64_t work[WORDS + BEYOND];
 
 /* ---- writing a book */
 
-static void put16(uint8_t *at, unsigned value) {
-    at[0] = (uint8_t)(value >> 8);
-    at[1] = (uint8_t)value;
-}
-
-/* A header of version 1,062 for a device 0 without buckets; all after it is zero. */
-static void header(int mark, unsigned key_count, unsigned parents, unsigned subvolumes) {
-    memset(book, 0, sizeof book);
-    put16(book, mark ? 0x1800 : 0x1000);
-    put16(book + 2, 1062);
-    put16(book + 6, key_count);
-    put16(book + 24, parents);
-    put16(book + 26, subvolumes);
-    end = HEADER;
-}
-
-static void key(unsigned btree, unsigned type, unsigned value_length, uint64_t offset) {
-    be(1, btree);
-    be(1, type);
-    be(2, value_length << 5);
-    be(4, 0); /* size */
-    be(8, 0); /* inode */
-    be(8, offset);
-    be(4, 0); /* snapshot */
-}
-
-static void entry(uint32_t id, uint32_t word) {
-    be(4, id);
-    be(4, word);
-}
-
 /* The book of the listing: one run of free buckets, of size 0, at bucket 2 of the buckets 1 to 3. */
 static void listing(void) {
-    header(1, 1, 0, 0);
+    header(TREES, 1, 0, 0);
     put16(book + 2, 0x0427);
     put16(book + 4, 1);
     book[23] = 4;
     key(11, 25, 0, 2);
-}
-
-/* Snapshots 1 to links + 1, each the parent of the next, all of tree 1, whose root is 1. Every snapshot has the root as a skip word. */
-static void chain(uint32_t links) {
-    header(1, links + 2, links + 1, 1);
-    for (uint32_t id = 1; id <= links + 1; id++)
-        entry(id, id - 1);
-    entry(1, 1); /* subvolume 1 is in snapshot 1 */
-    key(15, 31, 8, 1);
-    le32(1); /* subvolume */
-    le32(1); /* root */
-    for (uint32_t id = 1; id <= links + 1; id++) {
-        key(9, 22, 40, id);
-        le32(0);                           /* flags */
-        le32(id - 1);                      /* parent */
-        le32(id <= links ? id + 1 : 0);    /* children */
-        le32(0);
-        le32(0);                           /* subvolume */
-        le32(1);                           /* tree */
-        le32(id - 1);                      /* depth */
-        le32(1);                           /* skip */
-        le32(0);
-        le32(0);
-    }
 }
 
 static void subvolume(uint64_t id, uint32_t state) {
@@ -183,10 +128,10 @@ static void generations(void) {
     judge("65535 generations", end, ROOM - 1, 0);
 }
 
-/* Keys with the longest values, and a last one whose value ends the longest book. */
-static unsigned keys(void) {
+/* Fills the book up to the longest one with keys of the longest values, and a last one whose value ends it; returns
+   their number. */
+static unsigned fill(void) {
     unsigned count = 0;
-    header(0, 0, 0, 0);
     while (end < DOCKWRENCH_BOOK_MAX) {
         size_t left = DOCKWRENCH_BOOK_MAX - end - KEY_HEAD;
         unsigned length = left > LONGEST_VALUE ? LONGEST_VALUE : (unsigned)left;
@@ -194,7 +139,6 @@ static unsigned keys(void) {
         end += length;
         count++;
     }
-    put16(book + 6, count);
     return count;
 }
 
@@ -206,7 +150,9 @@ static void lengths(void) {
     table("65535 gens", 28, 9, 6);
     table("65535 alloc entries", 30, 10, 6);
     generations();
-    unsigned count = keys();
+    header(0, 0, 0, 0);
+    unsigned count = fill();
+    put16(book + 6, count);
     check("506 keys", DOCKWRENCH_BOOK_MAX);
     check("506 keys", DOCKWRENCH_BOOK_MAX + 1);
     check("506 keys, the last cut", DOCKWRENCH_BOOK_MAX - 1);
@@ -255,31 +201,120 @@ static void refusals(void) {
     refused("7: mark 0, tree key", end);
     header(0, 0, 0, 0);
     refused("8: 33 bytes, all counts 0", end + 1);
+    header(DRAWN, 0, 1, 0);
+    entry(5, 0);
+    refused("12: drawn mark, parent 5", end);
+    put16(book + 24, 65535);
+    refused("12: drawn mark, 65535 parents that do not fit", end);
+    header(DRAWN, 0, 0, 0);
+    check("the drawn mark alone", end);
 }
 
-static void chains(void) {
-    for (uint32_t links = 1023; links <= 1026; links++) {
-        char what[32];
-        snprintf(what, sizeof what, "chain of %u links", (unsigned)links);
-        chain(links);
-        ancestor(what, links + 1);
+/* Chains of about as many links as lead to a root: the root above the last snapshot, and the findings. */
+static void chains(const char *name, struct forest chain) {
+    for (uint32_t links = LINKS - 1; links <= LINKS + 2; links++) {
+        char what[64];
+        snprintf(what, sizeof what, "%s of %u links", name, (unsigned)links);
+        chain.links = links;
+        write_forest(&chain);
+        ancestor(what, id_at(&chain, 1, links));
         judge(what, end, 68, 2 * links + 4);
     }
-    ancestor("the same", 2);
-    ancestor("the same", 1);
+    ancestor("the same", id_at(&chain, 1, 1));
+    ancestor("the same", id_at(&chain, 1, 0));
     ancestor("the same", 0);
-    ancestor("the same", 1028);
-    header(0, 0, 2, 0);
-    entry(7, 7);
-    entry(8, 9);
-    ancestor("parents 7 to 7, 8 to 9", 7);
-    ancestor("parents 7 to 7, 8 to 9", 8);
-    ancestor("parents 7 to 7, 8 to 9", 9);
-    header(0, 0, 2, 0);
-    entry(0, 0);
-    entry(4294967295, 0);
-    ancestor("parents 0 to 0, 4294967295 to 0", 0);
-    ancestor("parents 0 to 0, 4294967295 to 0", 4294967295);
+    ancestor("the same", LINKS + 4);
+}
+
+/* A key whose value has a parent word, of its bytes as many as there are. */
+static void parent_key(unsigned btree, unsigned type, unsigned value_length, uint64_t offset, uint32_t parent) {
+    key(btree, type, value_length, offset);
+    size_t value = end;
+    le32(0); /* flags */
+    le32(parent);
+    end = value + value_length;
+}
+
+/* A parent in the table, or in a key that it is drawn from. */
+static void put_parent(unsigned mark, uint32_t id, uint32_t parent) {
+    if (mark)
+        parent_key(9, 22, 8, id, parent);
+    else
+        entry(id, parent);
+}
+
+/* A book of two parents and nothing else. */
+static void two_parents(unsigned mark, uint32_t first, uint32_t first_parent, uint32_t second, uint32_t second_parent) {
+    char what[80];
+    snprintf(what, sizeof what, "%sparents %u to %u, %u to %u", mark ? "drawn " : "", (unsigned)first,
+             (unsigned)first_parent, (unsigned)second, (unsigned)second_parent);
+    header(mark, mark ? 2 : 0, mark ? 0 : 2, 0);
+    put_parent(mark, first, first_parent);
+    put_parent(mark, second, second_parent);
+    ancestor(what, first);
+    ancestor(what, second);
+    ancestor(what, 9);
+}
+
+static void sources(void) {
+    chains("chain", (struct forest){TREES, 1, 0, 0, 1});
+    two_parents(0, 7, 7, 8, 9);
+    two_parents(0, 0, 0, 4294967295, 0);
+    chains("drawn chain", (struct forest){TREES | DRAWN, 1, 0, 0, 1});
+    chains("drawn rising chain", (struct forest){TREES | DRAWN, 1, 0, 1, 1});
+    chains("drawn scattered chain", (struct forest){TREES | DRAWN, 1, 0, 1, NO_ORDER});
+    two_parents(DRAWN, 7, 7, 8, 9);
+    two_parents(DRAWN, 0, 0, 4294967295, 0);
+}
+
+/* Which keys parents are drawn from, and which of several with one id. */
+static void drawn_keys(void) {
+    header(DRAWN, 11, 0, 0);
+    parent_key(9, 22, 7, 1, 0);
+    parent_key(9, 22, 8, 2, 0);
+    parent_key(9, 21, 8, 3, 0);
+    parent_key(8, 22, 8, 4, 0);
+    parent_key(9, 22, 8, 4294967296 + 5, 2);
+    parent_key(9, 22, 40, 6, 0);
+    parent_key(9, 22, 8, 6, 2); /* the last of 8 bytes or more */
+    parent_key(9, 22, 7, 6, 0);
+    parent_key(9, 22, 8, 4294967296 + 7, 0);
+    parent_key(9, 22, 8, 7, 6); /* the last, though of a lesser offset */
+    parent_key(9, 22, LONGEST_VALUE, 8, 7);
+    for (uint32_t id = 1; id <= 8; id++)
+        ancestor("drawn keys", id);
+}
+
+/* Ids that rise from key to key, among keys that no parents are drawn from, and links that rise towards a root, to no
+   id, back and to themselves. */
+static void drawn_in_order(void) {
+    header(DRAWN, 11, 0, 0);
+    parent_key(9, 22, 8, 1, 3);
+    parent_key(9, 21, 8, 2, 0);
+    parent_key(9, 22, 7, 3, 0);
+    parent_key(9, 22, 8, 4294967296 + 3, 5);
+    parent_key(8, 22, 8, 4, 0);
+    parent_key(9, 22, 8, 5, 7);
+    parent_key(9, 22, 40, 7, 0);
+    parent_key(9, 22, 8, 8, 10);
+    parent_key(9, 22, 8, 9, 11);
+    parent_key(9, 22, 8, 11, 7);
+    parent_key(9, 22, 8, 12, 12);
+    for (uint32_t id = 1; id <= 12; id++)
+        ancestor("drawn keys in order", id);
+}
+
+/* The longest book of drawn chains, with keys behind them that no rule reads. */
+static void longest_forest(const char *what, uint32_t stride) {
+    struct forest forest = {TREES | DRAWN, CHAINS, LINKS, 1, stride};
+    uint32_t snapshots = CHAINS * (LINKS + 1);
+    write_forest(&forest);
+    put16(book + 6, snapshots + CHAINS + fill());
+    judge(what, end, 0, dockwrench_words(book, end));
+    ancestor(what, id_at(&forest, 1, LINKS));
+    ancestor(what, id_at(&forest, CHAINS, LINKS));
+    ancestor(what, snapshots);
+    ancestor(what, snapshots + 1);
 }
 
 static void states(void) {
@@ -319,7 +354,11 @@ int main(void) {
     lengths();
     areas();
     refusals();
-    chains();
+    sources();
+    drawn_keys();
+    drawn_in_order();
+    longest_forest("15 drawn chains in rising order", 1);
+    longest_forest("15 drawn chains in no order", NO_ORDER);
     states();
     deleted();
     return 0;

@@ -1,5 +1,5 @@
 /*
- * stack BOOK ..: how much stack the three entries take, over the book files that are named and over three books
+ * stack BOOK ..: how much stack the three entries take, over the book files that are named and over six books
  * made here. Each call runs in a thread whose stack held one byte everywhere; from the lowest byte that is another one
  * afterwards up to the calling function, the stack was taken. Writes the most that a call took; where that is more than
  * DOCKWRENCH_STACK of include/dockwrench.h, the exit status is 1.
@@ -10,11 +10,11 @@
 #include <pthread.h>
 #include <stdio.h>
 #include <stdlib.h>
-#include <string.h>
 
 #define LINKS 1024
 #define KEYS 37448 /* without values, in the longest book */
 #define ALLOC 520  /* alloc entries enough for the rule on free runs to mark them, in the place of half as many keys */
+#define PARENTS 29124 /* drawn, beside a tree record in the longest book but for some bytes */
 #define FILL 0xa5
 
 static uint8_t findings[DOCKWRENCH_FINDING_BYTES];
@@ -30,8 +30,15 @@ static _Noreturn void fail(const char *what) {
 
 /* ---- the measure */
 
-static void check(void) { dockwrench_check(book, end, findings, sizeof findings, work, sizeof work / sizeof *work); }
-static void ancestor(void) { dockwrench_ancestor(book, end, LINKS + 1); }
+static void check(void) {
+    uint64_t answer = dockwrench_check(book, end, findings, sizeof findings, work, sizeof work / sizeof *work);
+    if (dockwrench_number(answer) % 10 != 0)
+        fail("a book is refused");
+}
+static void ancestor(void) {
+    dockwrench_ancestor(book, end, LINKS + 1);
+    dockwrench_ancestor(book, end, 1);
+}
 static void unavailable(void) { dockwrench_unavailable(book, end, 1); }
 static void (*const entries[])(void) = {check, ancestor, unavailable};
 
@@ -65,55 +72,44 @@ static void measure(void) {
 
 /* ---- the books */
 
-/* A header of version 1,063 with the trees mark, for device 0 and 2^40 buckets. */
-static void header(unsigned key_count, unsigned parents, unsigned alloc) {
-    end = 0;
-    be(4, 0x18000427);
-    be(4, key_count);
-    be(8, 0);
-    be(8, (uint64_t)1 << 40);
-    be(2, parents);
-    be(4, 0);
-    be(2, alloc);
+/* The longest chain that has a root, which is above the last id, or above the first where ids rise. */
+static void chain(unsigned marks, int rises, uint32_t stride) {
+    struct forest forest = {TREES | marks, 1, LINKS, rises, stride};
+    write_forest(&forest);
+    measure();
 }
 
-static void key(unsigned btree, unsigned type, unsigned value_length, uint32_t size, uint64_t offset) {
-    be(1, btree);
-    be(1, type);
-    be(2, value_length << 5);
-    be(4, size);
-    be(8, 0); /* inode */
-    be(8, offset);
-    be(4, 0); /* snapshot */
-}
+/* The numbers below `all` in an order that medians part badly: with steps between them that are too far to be sorted by
+   digits, the sort goes as deep as it may. */
+static uint64_t badly(uint64_t i, uint64_t all) { return 4 * (i % (all / 4)) + i / (all / 4); }
 
-/* Snapshots 1 to LINKS + 1, each the parent of the next, all of tree 1: the longest chain that has a root. */
-static void chain(void) {
-    header(LINKS + 2, LINKS + 1, 0);
-    for (uint32_t id = 1; id <= LINKS + 1; id++)
-        be(8, (uint64_t)id << 32 | (id - 1));
-    key(15, 31, 8, 0, 1);
-    le32(1); /* subvolume */
-    le32(1); /* root */
-    for (uint32_t id = LINKS + 1; id >= 1; id--) {
-        uint32_t words[] = {0, id - 1, id <= LINKS ? id + 1 : 0, 0, 0, 1, id - 1, 1, 1, 1};
-        key(9, 22, sizeof words, 0, id);
-        for (size_t i = 0; i < sizeof words / sizeof *words; i++)
-            le32(words[i]);
-    }
-}
-
-/* As many free runs as a book holds beside so many alloc entries, too far apart to be sorted by digits, and in an order
-   that medians part badly: the sort goes as deep as it may. */
+/* As many free runs as a book holds beside so many alloc entries. */
 static void runs(unsigned alloc) {
     uint64_t keys = KEYS - alloc / 2;
-    header(keys, 0, alloc);
+    header(TREES, keys, 0, 0);
+    book[18] = 1; /* 2^40 buckets */
+    put16(book + 30, alloc);
     for (uint64_t bucket = 0; bucket < alloc; bucket++) {
         be(8, bucket);
         be(2, 0);
     }
-    for (uint64_t i = 0; i < keys; i++)
-        key(11, 25, 0, 1, ((4 * (i % (keys / 4)) + i / (keys / 4)) << 20) + 1);
+    for (uint64_t i = 0; i < keys; i++) {
+        key(11, 25, 0, (badly(i, keys) << 20) + 1);
+        put16(book + end - KEY_HEAD + 6, 1); /* its size */
+    }
+    measure();
+}
+
+/* As many drawn parents as a book holds, by ids of 32 bits. */
+static void parents(void) {
+    header(TREES | DRAWN, PARENTS + 1, 0, 0);
+    key(15, 31, 8, 1);
+    end += 8;
+    for (uint64_t i = 0; i < PARENTS; i++) {
+        key(9, 22, 8, (badly(i, PARENTS) << 17) + 1);
+        end += 8;
+    }
+    measure();
 }
 
 static void read_book(const char *name) {
@@ -125,12 +121,12 @@ static void read_book(const char *name) {
 }
 
 int main(int argc, char **argv) {
-    chain();
-    measure();
+    chain(0, 0, LINKS);
+    chain(DRAWN, 0, LINKS);
+    chain(DRAWN, 1, 1);
     runs(0);
-    measure();
     runs(ALLOC);
-    measure();
+    parents();
     for (int i = 1; i < argc; i++) {
         read_book(argv[i]);
         measure();

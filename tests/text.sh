@@ -1,7 +1,7 @@
 #!/usr/bin/env bash
 # Writes what tools/book, or another build of tools/book.c, says of wrong input, with its exit status: the texts of
 # tests/text.txt, each ended by a line ---, then texts that are too long, texts with bytes that are not printable, bytes
-# that are not a whole book, and files that are not there.
+# that are not a whole book, and files that are not there; last, how the marks of the header are packed and written.
 # usage: tests/text.sh [PROGRAM]
 cd "$(dirname "$0")/.." || exit 1
 book=${1:-tools/book}
@@ -75,7 +75,20 @@ wrong_books() {
     say
 }
 
+# marks: the first two bytes that fields of the book's line are packed into, and the line that is written of them; a
+# drawn book with a parents table; and each value of the two bytes, there and back
+marks() {
+    local fields
+    for fields in '' trees drawn 'trees drawn' 'drawn trees' 'spare=512 drawn' 'trees spare=1023' 'drawn layout=0'; do
+        echo "book $fields" | "$book" pack | od -An -v -tx1 -N2 | tr -d ' '
+        echo "book $fields" | "$book" pack | say text
+    done
+    printf 'book drawn\nparent id=7 parent=8\n' | "$book" pack | say text
+    seq 0 65535 | awk '{ printf "%04x%060d\n", $1, 0 }' | say roundtrip
+}
+
 wrong_texts
 long_texts
 strange_texts
 wrong_books
+marks

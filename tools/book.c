@@ -57,9 +57,10 @@ struct field {
     const char *const *names;
 };
 static const struct field book_fields[] = {
-    {"layout", 4, RARE, 1, 0},       {"trees", 1, MARK, 0, 0},       {"spare", 11, RARE, 0, 0}, {"version", 16, MAY, 0, 0},
-    {"first_bucket", 16, MAY, 0, 0}, {"keys", 16, MADE, 0, 0},       {"device", 64, MAY, 0, 0}, {"buckets", 64, MAY, 0, 0},
-    {"parents", 16, MADE, 0, 0},     {"subvolumes", 16, MADE, 0, 0}, {"gens", 16, MADE, 0, 0},  {"alloc", 16, MADE, 0, 0},
+    {"layout", 4, RARE, 1, 0},  {"trees", 1, MARK, 0, 0},        {"drawn", 1, MARK, 0, 0},       {"spare", 10, RARE, 0, 0},
+    {"version", 16, MAY, 0, 0}, {"first_bucket", 16, MAY, 0, 0}, {"keys", 16, MADE, 0, 0},       {"device", 64, MAY, 0, 0},
+    {"buckets", 64, MAY, 0, 0}, {"parents", 16, MADE, 0, 0},     {"subvolumes", 16, MADE, 0, 0}, {"gens", 16, MADE, 0, 0},
+    {"alloc", 16, MADE, 0, 0},
 };
 static const struct field parent_fields[] = {{"id", 32, MUST, 0, 0}, {"parent", 32, MAY, 0, 0}};
 static const struct field subvolume_fields[] = {{"id", 32, MUST, 0, 0}, {"snapshot", 32, MUST, 0, 0}};
@@ -71,7 +72,7 @@ static const struct field key_fields[] = {
     {"btree", 8, MUST, 0, btrees}, {"type", 8, MUST, 0, types}, {"length", 11, MADE, 0, 0},  {"spare", 5, RARE, 0, 0}, {"size", 32, MAY, 0, 0},
     {"inode", 64, MAY, 0, 0},      {"offset", 64, MUST, 0, 0},  {"snapshot", 32, MAY, 0, 0}, {"words", 0, WORDS, 0, 0}, {"value", 0, BYTES, 0, 0},
 };
-#define FIELDS_MAX 12
+#define FIELDS_MAX 13
 #define LENGTH 2 /* the key's field */
 
 /* The kinds of lines, in the order of the packed tables. */
@@ -83,8 +84,8 @@ static const struct kind {
     const struct field *fields;
     size_t count;
 } kinds[KINDS] = {
-    {"book", 32, 0, FIELDS(book_fields)}, {"parent", 8, 8, FIELDS(parent_fields)}, {"subvolume", 8, 9, FIELDS(subvolume_fields)},
-    {"gen", 9, 10, FIELDS(gen_fields)},   {"alloc", 10, 11, FIELDS(alloc_fields)}, {"key", 28, 5, FIELDS(key_fields)},
+    {"book", 32, 0, FIELDS(book_fields)}, {"parent", 8, 9, FIELDS(parent_fields)}, {"subvolume", 8, 10, FIELDS(subvolume_fields)},
+    {"gen", 9, 11, FIELDS(gen_fields)},   {"alloc", 10, 12, FIELDS(alloc_fields)}, {"key", 28, 6, FIELDS(key_fields)},
 };
 
 /* Takes an entry's fields from its bytes, most significant bit first. */

@@ -3,6 +3,7 @@
 mod bushes;
 mod chains;
 mod damaged;
+mod drawn;
 mod fields;
 mod forest;
 mod many;
@@ -14,7 +15,9 @@ pub mod values;
 mod world;
 
 use crate::layout::{Book, Key};
+use crate::published;
 use random::Random;
+use std::collections::BTreeSet;
 
 #[derive(Clone, Copy, PartialEq, Eq, Debug)]
 pub enum Mode {
@@ -27,6 +30,9 @@ pub enum Mode {
     // 6 are the asked ids
     Bushes = 7,
     Many = 8,
+    Drawn = 9,
+    DrawnForest = 10,
+    DrawnChains = 11,
 }
 
 /// The numbers from which the asked ids of all modes are drawn, beside those of the modes.
@@ -35,7 +41,19 @@ const ASKED: u64 = 6;
 const FEWEST: u64 = 10;
 
 impl Mode {
-    pub const ALL: [Mode; 8] = [Mode::Mixed, Mode::Forest, Mode::Chains, Mode::Runs, Mode::Damaged, Mode::Short, Mode::Bushes, Mode::Many];
+    pub const ALL: [Mode; 11] = [
+        Mode::Mixed,
+        Mode::Forest,
+        Mode::Chains,
+        Mode::Runs,
+        Mode::Damaged,
+        Mode::Short,
+        Mode::Drawn,
+        Mode::DrawnForest,
+        Mode::DrawnChains,
+        Mode::Bushes,
+        Mode::Many,
+    ];
 
     pub fn name(self) -> &'static str {
         match self {
@@ -47,6 +65,9 @@ impl Mode {
             Mode::Short => "short",
             Mode::Bushes => "bushes",
             Mode::Many => "many",
+            Mode::Drawn => "drawn",
+            Mode::DrawnForest => "drawn_forest",
+            Mode::DrawnChains => "drawn_chains",
         }
     }
 
@@ -76,13 +97,19 @@ pub fn book(mode: Mode, seed: u64, index: u64) -> Vec<u8> {
         Mode::Short => short::book(r, index),
         Mode::Bushes => bushes::book(r).encode(),
         Mode::Many => many::book(r).encode(),
+        Mode::Drawn => drawn::book(r),
+        Mode::DrawnForest => drawn::forest(r).encode(),
+        Mode::DrawnChains => drawn::chain(r).encode(),
     }
 }
 
-/// Ids worth asking about in a book's two questions (1 to 4): from its parents table, its snapshot and subvolume keys, and some that are absent.
+/// Ids worth asking about in a book's two questions (1 to 4): from its parents, its snapshot and subvolume keys, and some that are absent.
 pub fn asked(bytes: &[u8], seed: u64, index: u64) -> Vec<u32> {
     let r = &mut Random::new(ASKED, seed, index);
-    let book = Book::decode(bytes).unwrap_or_default();
+    let mut book = Book::decode(bytes).unwrap_or_default();
+    if book.drawn {
+        book.parents = published::parents(&book).into_iter().collect();
+    }
     (0..=r.below(4)).map(|_| asked_id(r, &book)).collect()
 }
 
@@ -100,7 +127,7 @@ fn is_live(key: &Key) -> bool {
     values::word(&key.value, 40) == Some(values::SUBVOLUME_STATES[0])
 }
 
-/// An id or a parent word of the parents table, or a neighbour.
+/// An id or a parent word of the parents, or a neighbour; of drawn ones often the foot of a chain.
 fn parent_entry(r: &mut Random, book: &Book) -> u32 {
     if book.parents.is_empty() {
         return r.below(8) as u32;
@@ -108,6 +135,7 @@ fn parent_entry(r: &mut Random, book: &Book) -> u32 {
     let (id, parent) = match r.below(4) {
         0 => book.parents[0],
         1 => book.parents[book.parents.len() - 1],
+        2 if book.drawn => foot(r, &book.parents),
         _ => r.pick(&book.parents),
     };
     match r.below(8) {
@@ -117,7 +145,14 @@ fn parent_entry(r: &mut Random, book: &Book) -> u32 {
     }
 }
 
-/// The low half of the offset of a key that meets a condition, else an entry of the parents table.
+/// An entry whose id is no other's parent, or any entry if there is none.
+fn foot(r: &mut Random, parents: &[(u32, u32)]) -> (u32, u32) {
+    let above: BTreeSet<u32> = parents.iter().map(|entry| entry.1).collect();
+    let feet: Vec<(u32, u32)> = parents.iter().filter(|entry| !above.contains(&entry.0)).copied().collect();
+    r.pick(if feet.is_empty() { parents } else { &feet })
+}
+
+/// The low half of the offset of a key that meets a condition, else an entry of the parents.
 fn key_id(r: &mut Random, book: &Book, wanted: impl Fn(&Key) -> bool) -> u32 {
     let first = if book.keys.is_empty() { 0 } else { r.place(book.keys.len()) };
     let (before, from) = book.keys.split_at(first);

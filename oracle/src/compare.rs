@@ -6,6 +6,9 @@ use crate::shrink;
 use crate::states;
 use std::sync::atomic::{AtomicBool, Ordering};
 
+/// How many numbers an answer may have: 0 to 12.
+const NUMBERS: usize = 13;
+
 /// How often each kind and each number of an answer was reached.
 #[derive(Clone)]
 pub struct Counts {
@@ -15,13 +18,13 @@ pub struct Counts {
     pub kinds: [u64; 51],
     /// By state, in the order of `states::NAMES`: in how many books it was named.
     pub states: [u64; 7],
-    /// By number, 0 to 11: how many answers of the main call and of the ancestor question had it.
-    pub numbers: [u64; 12],
+    /// By number: how many answers of the main call and of the ancestor question had it.
+    pub numbers: [u64; NUMBERS],
 }
 
 impl Counts {
     pub fn new() -> Counts {
-        Counts { books: 0, accepted: 0, kinds: [0; 51], states: [0; 7], numbers: [0; 12] }
+        Counts { books: 0, accepted: 0, kinds: [0; 51], states: [0; 7], numbers: [0; NUMBERS] }
     }
 
     pub fn add(&mut self, other: &Counts) {
@@ -46,7 +49,7 @@ impl Counts {
     /// The kinds, states and numbers that no book reached.
     pub fn missing(&self) -> Vec<String> {
         let kinds = (1..=50).filter(|&k| self.kinds[k] == 0).map(|k| format!("kind {k}"));
-        let numbers = (0..=11).filter(|&n| self.numbers[n] == 0).map(|n| format!("answer {n}"));
+        let numbers = (0..NUMBERS).filter(|&n| self.numbers[n] == 0).map(|n| format!("answer {n}"));
         let states = states::NAMES.iter().zip(self.states).filter(|(_, count)| *count == 0).map(|((_, name), _)| format!("state {name}"));
         kinds.chain(states).chain(numbers).collect()
     }

@@ -1,7 +1,7 @@
-//! What document 01 states for a book: the answers of the three calls, with the published rules as the judge of the findings.
+//! What documents 01 and 02 state for a book: the answers of the three calls, with the published rules as the judge of the findings.
 use crate::layout::{Book, Refusal};
 use crate::library::{After, Answer, FINDING_BYTES};
-use crate::published::{Finding, Maps};
+use crate::published::{self, Finding, Maps, Parents};
 use crate::states;
 use std::collections::BTreeSet;
 
@@ -43,10 +43,15 @@ impl Change {
 
 impl Expected {
     pub fn of(bytes: &[u8]) -> Expected {
+        Expected::over(bytes, published::parents)
+    }
+
+    /// The same with parents by another reading.
+    pub fn over(bytes: &[u8], parents: impl Fn(&Book) -> Parents) -> Expected {
         match Book::decode(bytes) {
             Err(refusal) => Expected::Refused(refusal),
             Ok(book) => {
-                let maps = Box::new(Maps::of(&book));
+                let maps = Box::new(Maps::over(&book, parents(&book)));
                 let said = maps.judge();
                 let mut findings = said.findings();
                 name_states(&book, &mut findings);

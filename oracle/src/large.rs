@@ -11,11 +11,7 @@ use crate::speed;
 const CHANGES: [(&str, fn(&mut Vec<Key>)); 4] = [
     ("as it is", |_| ()),
     ("backwards", |keys| keys.reverse()),
-    ("in no order", |keys| {
-        let count = keys.len();
-        // 7,919 is a prime: all places are reached, but where the count is a multiple of it
-        *keys = (0..count).map(|i| keys[i * 7_919 % count].clone()).collect();
-    }),
+    ("in no order", speed::mix),
     ("with offsets off by one", |keys| keys.iter_mut().step_by(7).for_each(|key| key.offset ^= 1)),
 ];
 
@@ -37,13 +33,16 @@ pub fn run() -> bool {
     let mut areas = Areas::new();
     let mut is_same = true;
     let runs = ("2,000 runs over 30,000 alloc entries", runs_in_use());
-    for (name, book) in speed::rows().into_iter().chain(speed::tables()).chain([runs]) {
+    let books = speed::rows().into_iter().chain(speed::tables()).chain(speed::drawn()).chain([runs]);
+    let books = books.map(|(name, book)| (name, book, Vec::new()));
+    let questions = speed::questions().into_iter().map(|(name, book, id)| (name, book, vec![id, id + 1]));
+    for (name, book, ids) in books.chain(questions) {
         for (change, apply) in CHANGES {
             let mut book = book.clone();
             apply(&mut book.keys);
             let (bytes, mut counts) = (book.encode(), Counts::new());
             let expected = Expected::of(&bytes);
-            match compare::compare_with(&expected, &bytes, &[], &mut areas, &mut counts) {
+            match compare::compare_with(&expected, &bytes, &ids, &mut areas, &mut counts) {
                 Ok(()) => println!("{name}, {change}: {} findings, no difference", expected.findings().len()),
                 Err(what) => {
                     println!("{name}, {change}: {what}");

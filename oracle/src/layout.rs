@@ -1,9 +1,13 @@
-//! The packed book of document 01: written from fields, and read with its refusals. Written from document 01 alone, so that it is a second
-//! reading of the same sentences and not a copy of the proved one.
+//! The packed book of document 01, with the drawn mark of document 02's ticket 2: written from fields, and read with its refusals. Written from
+//! these documents alone, so that it is a second reading of the same sentences and not a copy of the proved one.
 
 /// A book over this many bytes is refused.
 pub const LONGEST_BOOK: usize = 1_048_576;
 pub const HEADER_BYTES: usize = 32;
+/// The first byte of a header: the layout is the high half, then come the two marks. Its last two bits and the second byte are spare.
+const LAYOUT: u8 = 0x10;
+pub const TREES_MARK: u8 = 0x08;
+pub const DRAWN_MARK: u8 = 0x04;
 pub const KEY_HEAD_BYTES: usize = 28;
 /// The largest number that the 11 bits of a value's length hold.
 pub const LONGEST_VALUE: usize = 2047;
@@ -24,6 +28,8 @@ pub struct Key {
 #[derive(Clone, Debug, Default, PartialEq, Eq)]
 pub struct Book {
     pub mark: bool,
+    /// Whether parents are drawn from the keys; the parents table then has to be empty.
+    pub drawn: bool,
     pub version: u16,
     pub first_bucket: u16,
     pub device: u64,
@@ -35,7 +41,7 @@ pub struct Book {
     pub keys: Vec<Key>,
 }
 
-/// A refusal: document 01's number, and the place.
+/// A refusal: its number in document 01 or 02, and the place.
 #[derive(Clone, Copy, Debug, PartialEq, Eq)]
 pub struct Refusal(pub u8, pub usize);
 
@@ -43,7 +49,8 @@ impl Book {
     /// The bytes of a book. Entries are written in the order in which they stand, also where that is not a book's.
     pub fn encode(&self) -> Vec<u8> {
         let mut b = Vec::new();
-        b.extend([if self.mark { 0x18 } else { 0x10 }, 0]);
+        let marks = if self.mark { TREES_MARK } else { 0 } | if self.drawn { DRAWN_MARK } else { 0 };
+        b.extend([LAYOUT | marks, 0]);
         b.extend(self.version.to_be_bytes());
         b.extend(self.first_bucket.to_be_bytes());
         b.extend((self.keys.len() as u16).to_be_bytes());
@@ -70,7 +77,7 @@ impl Book {
         b
     }
 
-    /// The book that bytes are, or the first refusal of 1 to 8.
+    /// The book that bytes are, or the first refusal of 1 to 8 and 12.
     pub fn decode(bytes: &[u8]) -> Result<Book, Refusal> {
         if bytes.len() > LONGEST_BOOK {
             return Err(Refusal(1, 0));
@@ -78,12 +85,17 @@ impl Book {
         if bytes.len() < HEADER_BYTES {
             return Err(Refusal(2, 0));
         }
-        if bytes[0] & 0xf7 != 0x10 || bytes[1] != 0 {
+        if bytes[0] & !(TREES_MARK | DRAWN_MARK) != LAYOUT || bytes[1] != 0 {
             return Err(Refusal(3, 0));
         }
         let half = |at: usize| u16::from_be_bytes([bytes[at], bytes[at + 1]]);
+        let (drawn, parents) = (bytes[0] & DRAWN_MARK != 0, half(24));
+        if drawn && parents != 0 {
+            return Err(Refusal(12, 0));
+        }
         let mut book = Book {
-            mark: bytes[0] & 8 != 0,
+            mark: bytes[0] & TREES_MARK != 0,
+            drawn,
             version: half(2),
             first_bucket: half(4),
             device: be64(bytes, 8),
@@ -91,7 +103,7 @@ impl Book {
             ..Book::default()
         };
         let mut rest = Rest { bytes, at: HEADER_BYTES };
-        for (table, count) in [(0, half(24)), (1, half(26))] {
+        for (table, count) in [(0, parents), (1, half(26))] {
             let mut last = None;
             for _ in 0..count {
                 let (start, e) = rest.entry(8)?;

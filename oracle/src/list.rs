@@ -12,8 +12,8 @@ use std::io;
 use std::path::Path;
 
 const SEED: u64 = 2026;
-/// How many books of each mode, and the most bytes that one may have.
-const PARTS: [(Mode, usize, usize); 7] = [
+/// How many books of each mode, and the most bytes that one may have. A chain of 1,023 links by keys is too long for a line of `replay`.
+const PARTS: [(Mode, usize, usize); 10] = [
     (Mode::Mixed, 1200, 360),
     (Mode::Forest, 400, 500),
     (Mode::Chains, 300, 400),
@@ -21,6 +21,9 @@ const PARTS: [(Mode, usize, usize); 7] = [
     (Mode::Runs, 500, 300),
     (Mode::Damaged, 500, 300),
     (Mode::Short, 100, 100),
+    (Mode::Drawn, 500, 600),
+    (Mode::DrawnForest, 200, 500),
+    (Mode::DrawnChains, 200, 900),
 ];
 /// What `replay` can lend.
 const MOST_ROOM: usize = 65_535;
@@ -63,7 +66,7 @@ fn rarest(counts: &mut Counts, input: &mut String, output: &mut String) {
 
 fn heading() -> String {
     "\
-# Made by `oracle list`: books from seed 2026, with the answers that document 01 states, the published Rust rules being the judge of the findings.
+# Made by `oracle list`: books from seed 2026, with the answers that documents 01 and 02 state, the published Rust rules being the judge of the findings.
 # A line of books is room, words and asked id, 8 digits each, and the book, in hexadecimal. A line of answers is number, place and count of the
 # main call; number, root and links of the ancestor question; number and yes of the availability question; then the findings in the buffer.
 "

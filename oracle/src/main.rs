@@ -18,6 +18,7 @@ mod texts;
 use books::Mode;
 use compare::Counts;
 use std::process::ExitCode;
+use std::time::Duration;
 
 const USAGE: &str = "\
 usage: oracle run [MODE|all] [BOOKS] [SEED]   compares so many books of each mode, in a run over all fewer long ones
@@ -27,7 +28,7 @@ usage: oracle run [MODE|all] [BOOKS] [SEED]   compares so many books of each mod
        oracle list FOLDER                     writes the list that the program `replay` runs: stdin and stdout
        oracle selftest                        shows that a change of a finding of each kind is seen, with the smallest book that shows it
        oracle speed [NAME]                    times both on the books of docs/SPEED.md, or on those with NAME in their name
-modes: mixed, forest, chains, runs, damaged, short, and those with long books: bushes, many";
+modes: mixed, forest, chains, runs, damaged, short, drawn, drawn_forest, drawn_chains, and those with long books: bushes, many";
 
 fn main() -> ExitCode {
     let args: Vec<String> = std::env::args().skip(1).collect();
@@ -157,10 +158,18 @@ fn speed(named: &str) -> Option<bool> {
     table("book");
     let rows = speed::rows().into_iter().filter(|(name, _)| name.contains(named));
     let is_ahead = rows.fold(true, |is_ahead, (name, book)| row(name, &book) && is_ahead);
+    for (title, books) in [("long tables", speed::tables()), ("drawn parents", speed::drawn())] {
+        println!();
+        table(title);
+        for (name, book) in books.into_iter().filter(|(name, _)| name.contains(named)) {
+            row(name, &book);
+        }
+    }
     println!();
-    table("long tables");
-    for (name, book) in speed::tables().into_iter().filter(|(name, _)| name.contains(named)) {
-        row(name, &book);
+    println!("| ancestor question, drawn | bytes | links | Dockwrench, µs | map and walk, µs | ratio | one pass, µs |");
+    println!("|---|---|---|---|---|---|---|");
+    for (name, book, id) in speed::questions().into_iter().filter(|(name, ..)| name.contains(named)) {
+        question(name, &book, id);
     }
     if named.is_empty() {
         println!();
@@ -177,11 +186,23 @@ fn table(first: &str) {
     println!("|---|---|---|---|---|---|---|---|");
 }
 
+fn micros(time: Duration) -> f64 {
+    time.as_secs_f64() * 1e6
+}
+
+fn shown(time: Duration) -> String {
+    let digits = if micros(time) < 1.0 { 3 } else { 2 * usize::from(micros(time) < 10.0) };
+    format!("{:.digits$}", micros(time))
+}
+
+fn question(name: &str, book: &layout::Book, id: u32) {
+    let t = speed::question_times(book, id);
+    let (bytes, ratio) = (book.encode().len(), micros(t.ours) / micros(t.map_and_walk));
+    println!("| {name} | {bytes} | {} | {} | {} | {ratio:.2} | {} |", t.links, shown(t.ours), shown(t.map_and_walk), shown(t.pass));
+}
+
 fn row(name: &str, book: &layout::Book) -> bool {
     let t = speed::times(book);
-    let micros = |d: std::time::Duration| d.as_secs_f64() * 1e6;
-    let digits = |m| if m < 1.0 { 3 } else { 2 * usize::from(m < 10.0) };
-    let shown = |d| format!("{:.*}", digits(micros(d)), micros(d));
     let ratio = micros(t.ours) / micros(t.rust);
     let (bytes, ours, rust, with_maps, pass) = (book.encode().len(), shown(t.ours), shown(t.rust), shown(t.with_maps), shown(t.pass));
     println!("| {name} | {bytes} | {} | {ours} | {rust} | {ratio:.2} | {with_maps} | {pass} |", t.findings);

@@ -1,6 +1,6 @@
 //! The published rules over a book: called in document 01's order over maps made from the book, their detail texts read back into numbers.
-use crate::books::values::{FREESPACE, SNAPSHOTS, TREES, T_SNAPSHOT, T_TREE};
-use crate::layout::Book;
+use crate::books::values::{word, FREESPACE, PARENT_WORD, SNAPSHOTS, TREES, T_SNAPSHOT, T_TREE};
+use crate::layout::{Book, Key};
 use crate::texts;
 use reference::bkey::{Bkey, Bpos};
 use reference::check::Report;
@@ -15,12 +15,35 @@ pub struct Finding {
     pub object: u64,
 }
 
+/// Parents by id.
+pub type Parents = BTreeMap<u32, u32>;
+
+/// The parents that all rules and the ancestor question go by: those of the table, or of a drawn book those of its keys.
+pub fn parents(book: &Book) -> Parents {
+    match book.drawn {
+        true => drawn(&book.keys),
+        false => book.parents.iter().copied().collect(),
+    }
+}
+
+/// Document 02's ticket 2: the parent words of btree 9 keys of type 22 with 8 value bytes or more, by the offset's low 32 bits, the later key winning.
+fn drawn(keys: &[Key]) -> Parents {
+    let mut parents = Parents::new();
+    for key in keys.iter().filter(|k| k.btree == SNAPSHOTS && k.key_type == T_SNAPSHOT) {
+        // a shorter value has no such word
+        if let Some(parent) = word(&key.value, PARENT_WORD) {
+            parents.insert(key.offset as u32, parent);
+        }
+    }
+    parents
+}
+
 /// A book as the published rules take it.
 pub struct Maps {
     version: Version,
     device: u64,
     member: Member,
-    parents: BTreeMap<u32, u32>,
+    parents: Parents,
     subvolumes: BTreeMap<u32, (u64, u32)>,
     gens: BTreeMap<u64, u8>,
     alloc: BTreeMap<u64, Option<u8>>,
@@ -39,6 +62,11 @@ pub struct Said {
 
 impl Maps {
     pub fn of(book: &Book) -> Maps {
+        Maps::over(book, parents(book))
+    }
+
+    /// The same with parents that are given.
+    pub fn over(book: &Book, parents: Parents) -> Maps {
         let keys: Vec<(u8, Bkey)> = book
             .keys
             .iter()
@@ -58,7 +86,7 @@ impl Maps {
             version: Version(book.version),
             device: book.device,
             member: Member { uuid: [0; 16], nbuckets: book.buckets, first_bucket: book.first_bucket, bucket_size: 0, last_mount: 0 },
-            parents: book.parents.iter().copied().collect(),
+            parents,
             // the root inode of a subvolume is in no book, and no rule reads it
             subvolumes: book.subvolumes.iter().map(|&(id, snapshot)| (id, (0, snapshot))).collect(),
             gens: book.gens.iter().copied().collect(),

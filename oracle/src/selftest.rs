@@ -1,9 +1,12 @@
-//! Shows that a run can fail: one finding of the judge is changed, and each time the difference has to be seen and the
-//! book made small.
+//! Shows that a run can fail: one finding of the judge is changed, or drawn parents are read by another rule, and each time the difference has to
+//! be seen and the book made small.
+use crate::books::values::{SNAPSHOTS, T_SNAPSHOT};
 use crate::books::{self, Mode};
 use crate::compare::{compare_with, Counts};
 use crate::expected::{Change, Expected};
+use crate::layout::Key;
 use crate::library::Areas;
+use crate::published;
 use crate::shrink;
 use crate::text;
 
@@ -19,22 +22,40 @@ const MOST_KEYS: usize = 3;
 /// Longer books are told by their length.
 const LONGEST_SHOWN: usize = 500;
 
-/// A change of the last finding of a kind, in the first book of these modes where it can be made. Only books of so many
-/// keys or more are judged wrong.
+/// Other readings of the rule for drawn parents: what is done to the keys before it is applied.
+const READINGS: [(&str, fn(&mut Vec<Key>)); 8] = [
+    ("no key is read", |keys| keys.clear()),
+    ("the first key wins", |keys| keys.reverse()),
+    ("the longest key wins", |keys| keys.sort_by_key(|k| k.value.len())),
+    ("7 bytes are enough", |keys| keys.iter_mut().filter(|k| k.value.len() == 7).for_each(|k| k.value.push(0))),
+    ("8 bytes are not enough", |keys| keys.retain(|k| k.value.len() != 8)),
+    ("the whole offset is the id", |keys| keys.retain(|k| k.offset <= u32::MAX.into())),
+    ("any btree counts", |keys| keys.iter_mut().for_each(|k| k.btree = SNAPSHOTS)),
+    ("any type counts", |keys| keys.iter_mut().for_each(|k| k.key_type = T_SNAPSHOT)),
+];
+
+/// What is made wrong: the last finding of a kind, or the reading of drawn parents, of which only books count in which it changes a finding.
+#[derive(Clone, Copy)]
+enum Wrong {
+    Finding(Change, u8),
+    Parents(&'static str, fn(&mut Vec<Key>)),
+}
+
+/// A wrong judge, tried on the first book of these modes where it is wrong. Only books of so many keys or more are judged wrong.
 struct Case {
     modes: &'static [Mode],
-    change: Change,
-    kind: u8,
+    wrong: Wrong,
     keys: usize,
 }
 
-/// Makes each change in each kind, and each in long books, and says what was seen.
+/// Makes each change in each kind, and each in long books, and each other reading, and says what was seen.
 pub fn run() -> bool {
-    let of_each_kind = |change| KINDS.map(move |kind| Case { modes: &[Mode::Mixed, Mode::Runs], change, kind, keys: 0 });
-    let in_long_books = |change| LONG_MODES.map(|modes| Case { modes, change, kind: LONG_KIND, keys: 0 });
-    let with_many_keys = LONG_MODES.map(|modes| Case { modes, change: Change::Dropped, kind: LONG_KIND, keys: NEEDED_KEYS });
+    let of_each_kind = |change| KINDS.map(move |kind| Case { modes: &[Mode::Mixed, Mode::Runs], wrong: Wrong::Finding(change, kind), keys: 0 });
+    let in_long_books = |change| LONG_MODES.map(|modes| Case { modes, wrong: Wrong::Finding(change, LONG_KIND), keys: 0 });
+    let with_many_keys = LONG_MODES.map(|modes| Case { modes, wrong: Wrong::Finding(Change::Dropped, LONG_KIND), keys: NEEDED_KEYS });
+    let of_parents = READINGS.map(|(name, read)| Case { modes: &[Mode::Drawn], wrong: Wrong::Parents(name, read), keys: 0 });
     let mut cases: Vec<Case> = Change::ALL.into_iter().flat_map(of_each_kind).collect();
-    cases.extend(Change::ALL.into_iter().flat_map(in_long_books).chain(with_many_keys));
+    cases.extend(Change::ALL.into_iter().flat_map(in_long_books).chain(with_many_keys).chain(of_parents));
     let unseen = cases.iter().filter(|case| !case.show()).count();
     println!("{} changes, {unseen} of them not seen", cases.len());
     unseen == 0
@@ -51,7 +72,7 @@ impl Case {
         };
         let modes: Vec<&str> = self.modes.iter().map(|mode| mode.name()).collect();
         let keys = if self.keys == 0 { String::new() } else { format!(" with {} keys or more", self.keys) };
-        println!("{}{keys}, {} of kind {}: {said}", modes.join(" and "), self.change.name(), self.kind);
+        println!("{}{keys}, {}: {said}", modes.join(" and "), self.wrong.name());
         seen.is_ok()
     }
 
@@ -72,9 +93,36 @@ impl Case {
         }
     }
 
-    /// The answers to a book with the change, where it can be made.
+    /// The wrong answers to a book, where they are wrong.
     fn wrong(&self, bytes: &[u8]) -> Option<Expected> {
-        let mut expected = Expected::of(bytes);
-        (expected.words() >= 2 * self.keys && expected.change(self.change, self.kind)).then_some(expected)
+        let right = Expected::of(bytes);
+        if right.words() < 2 * self.keys {
+            return None;
+        }
+        self.wrong.apply(right, bytes)
+    }
+}
+
+impl Wrong {
+    fn name(self) -> String {
+        match self {
+            Wrong::Finding(change, kind) => format!("{} of kind {kind}", change.name()),
+            Wrong::Parents(name, _) => name.to_string(),
+        }
+    }
+
+    /// The answers to a book, made wrong where that can be done.
+    fn apply(self, mut right: Expected, bytes: &[u8]) -> Option<Expected> {
+        match self {
+            Wrong::Finding(change, kind) => right.change(change, kind).then_some(right),
+            Wrong::Parents(_, read) => {
+                let wrong = Expected::over(bytes, |book| {
+                    let mut book = book.clone();
+                    read(&mut book.keys);
+                    published::parents(&book)
+                });
+                (wrong.findings() != right.findings()).then_some(wrong)
+            }
+        }
     }
 }

@@ -1,5 +1,5 @@
 //! Makes a book smaller while something still holds of it.
-use crate::layout::Book;
+use crate::layout::{Book, DRAWN_MARK, TREES_MARK};
 use std::ops::Range;
 use std::time::{Duration, Instant};
 
@@ -10,11 +10,12 @@ const LONGEST: Duration = Duration::from_secs(60);
 const LONGEST_BY_BYTES: usize = 4096;
 
 /// The smallest book that was found: no single step makes it smaller, if there was time for all. Shorter is smaller; of
-/// one length, fewer bytes that are not zero.
+/// one length, fewer bytes that are not zero; of as many of these, fewer marks.
 pub fn smallest(book: Vec<u8>, holds: impl FnMut(&[u8]) -> bool) -> Vec<u8> {
     let mut shrinker = Shrinker { book, holds, until: Instant::now() + LONGEST };
     loop {
         let before = size(&shrinker.book);
+        shrinker.marks();
         shrinker.parts();
         shrinker.values();
         shrinker.cuts();
@@ -25,8 +26,9 @@ pub fn smallest(book: Vec<u8>, holds: impl FnMut(&[u8]) -> bool) -> Vec<u8> {
     }
 }
 
-fn size(bytes: &[u8]) -> (usize, usize) {
-    (bytes.len(), bytes.iter().filter(|&&b| b != 0).count())
+fn size(bytes: &[u8]) -> (usize, usize, u32) {
+    let marks = bytes.first().map_or(0, |first| (first & (TREES_MARK | DRAWN_MARK)).count_ones());
+    (bytes.len(), bytes.iter().filter(|&&b| b != 0).count(), marks)
 }
 
 /// A table of a book: its length, and the book without a range of it.
@@ -65,6 +67,13 @@ impl<F: FnMut(&[u8]) -> bool> Shrinker<F> {
             apply(&mut book);
             Some(book.encode())
         })
+    }
+
+    /// Clears the marks, also where it is no whole book.
+    fn marks(&mut self) {
+        for mark in [DRAWN_MARK, TREES_MARK] {
+            self.take(|bytes| Some([&[bytes.first()? & !mark], &bytes[1..]].concat()));
+        }
     }
 
     /// Leaves out entries and keys.

@@ -3,12 +3,15 @@ use crate::books::values::*;
 use crate::books::{self, Mode};
 use crate::layout::{Book, Key, HEADER_BYTES, KEY_HEAD_BYTES, LONGEST_BOOK};
 use crate::library;
-use crate::published::Maps;
+use crate::published::{self, Maps, Parents};
 use std::hint::black_box;
 use std::time::{Duration, Instant};
 
 /// Before 1.39, where a state is not asked for.
 const VERSION: u16 = 1062;
+
+/// Lengths from which on a snapshot has a parent, has a tree, and is judged.
+const LENGTHS: [usize; 3] = [8, 24, 40];
 
 /// How long each program is run on a book in a round, and the rounds; the shortest time of all rounds counts.
 const ROUND: Duration = Duration::from_millis(60);
@@ -21,7 +24,8 @@ const BATCH: Duration = Duration::from_micros(20);
 pub fn rows() -> Vec<(&'static str, Book)> {
     vec![
         ("37,000 free runs in no order", free_runs()),
-        ("13 chains of 1,000 snapshots", chains()),
+        ("13 chains of 1,000 snapshots", chains(13)),
+        ("13 chains of 1,000 snapshots, drawn", without_table(chains(13))),
         ("15,000 keys at the foot of 1,024 links", foot()),
         ("a mixed book of 1 MiB", mixed(LONGEST_BOOK)),
         ("7,000 deleted subvolumes", deleted()),
@@ -40,6 +44,45 @@ pub fn tables() -> Vec<(&'static str, Book)> {
         ("200 bucket_gens keys, 51,200 generations", generations(200, 1)),
         ("1,800 bucket_gens keys, generations nine buckets apart", generations(1_800, 9)),
     ]
+}
+
+/// Snapshots in no order, by a table and drawn, and drawn books with many keys of an id. Values of less than 24 bytes are each a finding.
+pub fn drawn() -> Vec<(&'static str, Book)> {
+    vec![
+        ("13 chains of 1,000 snapshots in no order", in_no_order(chains(13))),
+        ("13 chains of 1,000 snapshots in no order, drawn", in_no_order(without_table(chains(13)))),
+        ("6 chains of 1,000, each id with 8, 24 and 40 bytes, in no order, drawn", in_no_order(in_lengths(without_table(chains(6))))),
+        ("15,000 keys of one id, 8 bytes each, drawn", one_id(&[8])),
+        ("15,000 keys of one id, 8, 24 and 40 bytes in turn, drawn", one_id(&LENGTHS)),
+    ]
+}
+
+/// Drawn books of a mebibyte for the ancestor question, with the id that has 1,024 links above it.
+pub fn questions() -> Vec<(&'static str, Book, u32)> {
+    let (in_order, foot) = upward_chains();
+    vec![("1,024 links in rising order of id", in_order.clone(), foot), ("1,024 links in no order", in_no_order(in_order), foot)]
+}
+
+/// Brings keys into no order. 7,919 is a prime: all places are reached, but where the count is a multiple of it.
+pub fn mix(keys: &mut Vec<Key>) {
+    let count = keys.len();
+    *keys = (0..count).map(|i| keys[i * 7_919 % count].clone()).collect();
+}
+
+fn in_no_order(mut book: Book) -> Book {
+    mix(&mut book.keys);
+    book
+}
+
+/// The same book, its parents drawn.
+fn without_table(book: Book) -> Book {
+    Book { drawn: true, parents: Vec::new(), ..book }
+}
+
+/// Each key of a book with its value cut to each of the lengths that it has.
+fn in_lengths(book: Book) -> Book {
+    let cuts = |key: Key| LENGTHS.into_iter().filter_map(move |length| Some(Key { value: key.value.get(..length)?.to_vec(), ..key.clone() }));
+    Book { keys: book.keys.into_iter().flat_map(cuts).collect(), ..book }
 }
 
 fn empty() -> Book {
@@ -87,9 +130,9 @@ fn snapshot(root: u32, depth: u32, length: u32, tree: u32) -> Key {
     key(SNAPSHOTS, T_SNAPSHOT, 0, u64::from(id), words.value(40))
 }
 
-fn chains() -> Book {
+fn chains(trees: u32) -> Book {
     let (mut book, length) = (empty(), 1_000);
-    for tree in 1..=13 {
+    for tree in 1..=trees {
         let root = 1 + (tree - 1) * length;
         book.keys.push(key(TREES, T_TREE, 0, u64::from(tree), tree_value(1, root, 8)));
         for depth in 0..length {
@@ -99,6 +142,26 @@ fn chains() -> Book {
     }
     // all trees name subvolume 1, whose snapshot no tree has
     book.subvolumes.push((1, u32::MAX));
+    book
+}
+
+/// 28 chains of 1,024 links whose ids rise towards the root, with values of 8 bytes, and the foot of the last.
+fn upward_chains() -> (Book, u32) {
+    let (chains, snapshots) = (28, 1_025);
+    let link = |id: u32| {
+        let parent = if id % snapshots == 0 { 0 } else { id + 1 };
+        key(SNAPSHOTS, T_SNAPSHOT, 0, u64::from(id), Snapshot { parent, ..Snapshot::default() }.value(8))
+    };
+    let keys = (1..=chains * snapshots).map(link).collect();
+    (Book { drawn: true, keys, ..empty() }, (chains - 1) * snapshots + 1)
+}
+
+/// 15,000 keys of a sound root, with values of these lengths in turn.
+fn one_id(lengths: &[usize]) -> Book {
+    let mut book = Book { drawn: true, subvolumes: vec![(1, u32::MAX)], ..empty() };
+    let root = snapshot(1, 0, 1, 1);
+    book.keys = lengths.iter().cycle().take(15_000).map(|&length| Key { value: root.value[..length].to_vec(), ..root.clone() }).collect();
+    book.keys.push(key(TREES, T_TREE, 0, 1, tree_value(1, 1, 8)));
     book
 }
 
@@ -215,6 +278,41 @@ pub fn times(book: &Book) -> Times {
         best[3] = best[3].min(round(|| pass(black_box(&bytes))));
     }
     Times { ours: best[0], rust: best[1], with_maps: best[2], pass: best[3], findings }
+}
+
+/// The shortest times of the ancestor question: Dockwrench whole; the map made from the keys and followed; one pass over the bytes. The published
+/// program has no such question: it makes the same map of parents from its snapshots, and follows it inside `snapshot_links` alone. So both are done
+/// here, as the oracle reads the rule.
+pub struct QuestionTimes {
+    pub ours: Duration,
+    pub map_and_walk: Duration,
+    pub pass: Duration,
+    pub links: u32,
+}
+
+pub fn question_times(book: &Book, id: u32) -> QuestionTimes {
+    let bytes = book.encode();
+    let answer = library::ancestor(&bytes, id);
+    assert_eq!((answer.number, Some((answer.count, answer.place))), (0, walk(&published::parents(book), id)), "both find the same root");
+    let mut best = [Duration::MAX; 3];
+    for _ in 0..ROUNDS {
+        best[0] = best[0].min(round(|| library::ancestor(black_box(&bytes), id)));
+        best[1] = best[1].min(round(|| walk(&published::parents(black_box(book)), id)));
+        best[2] = best[2].min(round(|| pass(black_box(&bytes))));
+    }
+    QuestionTimes { ours: best[0], map_and_walk: best[1], pass: best[2], links: answer.place }
+}
+
+/// The root above an id within 1,024 links, and the links.
+fn walk(parents: &Parents, id: u32) -> Option<(u32, u32)> {
+    let mut at = id;
+    for links in 0..=1_024 {
+        match *parents.get(&at)? {
+            0 => return Some((at, links)),
+            parent => at = parent,
+        }
+    }
+    None
 }
 
 /// One pass over the bytes, one at a time: a sum in which each step needs the one before.

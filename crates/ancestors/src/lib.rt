@@ -6,13 +6,16 @@ ghost use Prim.Native.Nat.{_+_, _≤_, _<_, min};
 ghost use lib.ListN.{length, take, drop};
 ghost use Rattle.pairs.specs.Pairs.{has};
 ghost use Rattle.book.specs.Maps.{lookup};
-ghost use Rattle.book.specs.Book.{wordsTable, wordsFrom};
-ghost use Rattle.book.specs.Walk.{Rising};
+ghost use Rattle.book.specs.Book.{bookOf};
+ghost use Rattle.book.specs.KeyMaps.{parentsOf};
+ghost use Rattle.parents.specs.Sources.{reachOf, Sourced};
 ghost use Rattle.ancestors.specs.Lines.{ancestorsOf, Lined};
 ghost use Rattle.ancestors.specs.Steps.{isRooted, withLinks, rootBelow};
 use book::MaybeU32;
 use parents::Root;
-use parents::parent_of;
+use parents::Source;
+use parents::parent_in;
+use parents::reach;
 
 // The ids above a snapshot, nearest first, and the root.
 pub struct Ancestors {
@@ -29,7 +32,7 @@ pub struct Among {
 }
 
 // What is known of the ids above a snapshot that an array begins with: the snapshot, how many they are, and the root. From the place `near` the
-// table is searched for the next snapshot.
+// next snapshot is looked for.
 pub struct Line {
     pub id: u32,
     pub len: usize,
@@ -38,16 +41,16 @@ pub struct Line {
 }
 
 // The ids above `id`, repeats included, and its root.
-pub fn ancestors_of(book: &[u8], start: usize, count: usize, id: u32) -> Ancestors
-    requires { ⌜ Rising wordsTable (now book) start count ⌝ }
-    ensures { λ r. ⌜ r ≡ ancestorsOf (wordsFrom (now (book .entry)) count start) id ⌝ }
+pub fn ancestors_of(book: &[u8], work: &[u64], source: Source, id: u32) -> Ancestors
+    requires { ⌜ Sourced (now book) (now work) source ⌝ }
+    ensures { λ r. ⌜ r ≡ ancestorsOf (parentsOf (bookOf (now (book .entry)))) id ⌝ }
 {
     let mut ids = [0u32; 1024];
     let mut len: usize = 0;
     let mut at = id;
-    let mut near = count;
+    let mut near = reach(source);
     loop {
-        let found = parent_of(book, start, count, near, at);
+        let found = parent_in(book, work, source, near, at);
         near = found.at;
         let parent = found.word;
         let MaybeU32::Is(p) = parent else {
@@ -169,17 +172,17 @@ fn with_links(root: Root, links: u32) -> Root
 // The line of `id`, by a walk of its chain; `near` is a place near its own in the table.
 pub fn line_of(
     book: &[u8],
-    start: usize,
-    count: usize,
+    work: &[u64],
+    source: Source,
     near: usize,
     id: u32,
     ids: &mut [u32; 1024],
 ) -> Line
-    requires { ⌜ Rising wordsTable (now book) start count × (near ≤ count) ⌝ }
-    ensures lined { λ r. ⌜ Lined (wordsFrom (now (book .entry)) count start) (now (ids .exit)) r ⌝ }
-    ensures same { λ r. ⌜ (r .id ≡ id) × (r .near ≤ count) ⌝ }
+    requires { ⌜ Sourced (now book) (now work) source × (near ≤ reachOf source) ⌝ }
+    ensures lined { λ r. ⌜ Lined (parentsOf (bookOf (now (book .entry)))) (now (ids .exit)) r ⌝ }
+    ensures same { λ r. ⌜ (r .id ≡ id) × (r .near ≤ reachOf source) ⌝ }
 {
-    let above = ancestors_of(book, start, count, id);
+    let above = ancestors_of(book, work, source, id);
     let all = above.ids;
     *ids = all;
     let root = above.root;
@@ -195,18 +198,18 @@ pub fn line_of(
 // other's too, the ids are the same.
 fn line_under(
     book: &[u8],
-    start: usize,
-    count: usize,
+    work: &[u64],
+    source: Source,
     line: Line,
     near: usize,
     id: u32,
     p: u32,
     ids: &mut [u32; 1024],
 ) -> Line
-    requires { ⌜ Rising wordsTable (now book) start count × Lined (wordsFrom (now book) count start) (now ids) line × (near ≤ count) ⌝ }
-    requires { ⌜ (lookup id (wordsFrom (now book) count start) ≡ some p) × (0 < p) ⌝ }
-    ensures lined { λ r. ⌜ Lined (wordsFrom (now (book .entry)) count start) (now (ids .exit)) r ⌝ }
-    ensures same { λ r. ⌜ (r .id ≡ id) × (r .near ≤ count) ⌝ }
+    requires { ⌜ Sourced (now book) (now work) source × Lined (parentsOf (bookOf (now book))) (now ids) line × (near ≤ reachOf source) ⌝ }
+    requires { ⌜ (lookup id (parentsOf (bookOf (now book))) ≡ some p) × (0 < p) ⌝ }
+    ensures lined { λ r. ⌜ Lined (parentsOf (bookOf (now (book .entry)))) (now (ids .exit)) r ⌝ }
+    ensures same { λ r. ⌜ (r .id ≡ id) × (r .near ≤ reachOf source) ⌝ }
 {
     let root = line.root;
     if p == line.id {
@@ -229,23 +232,23 @@ fn line_under(
             near,
         };
     }
-    line_of(book, start, count, near, id, ids)
+    line_of(book, work, source, near, id, ids)
 }
 
 // The line of `id` from that of another snapshot, by the parent of `id`.
 fn line_by_parent(
     book: &[u8],
-    start: usize,
-    count: usize,
+    work: &[u64],
+    source: Source,
     line: Line,
     id: u32,
     ids: &mut [u32; 1024],
 ) -> Line
-    requires { ⌜ Rising wordsTable (now book) start count × Lined (wordsFrom (now book) count start) (now ids) line × (line .near ≤ count) ⌝ }
-    ensures lined { λ r. ⌜ Lined (wordsFrom (now (book .entry)) count start) (now (ids .exit)) r ⌝ }
-    ensures same { λ r. ⌜ (r .id ≡ id) × (r .near ≤ count) ⌝ }
+    requires { ⌜ Sourced (now book) (now work) source × Lined (parentsOf (bookOf (now book))) (now ids) line × (line .near ≤ reachOf source) ⌝ }
+    ensures lined { λ r. ⌜ Lined (parentsOf (bookOf (now (book .entry)))) (now (ids .exit)) r ⌝ }
+    ensures same { λ r. ⌜ (r .id ≡ id) × (r .near ≤ reachOf source) ⌝ }
 {
-    let found = parent_of(book, start, count, line.near, id);
+    let found = parent_in(book, work, source, line.near, id);
     let near = found.at;
     let parent = found.word;
     let MaybeU32::Is(p) = parent else {
@@ -264,22 +267,22 @@ fn line_by_parent(
             near,
         };
     }
-    line_under(book, start, count, line, near, id, p, ids)
+    line_under(book, work, source, line, near, id, p, ids)
 }
 
 // The line of `id` from that of another snapshot: of the same, or of a child with a root, from which the first id is taken away; else by the
 // parent of `id`.
 pub fn line_beside(
     book: &[u8],
-    start: usize,
-    count: usize,
+    work: &[u64],
+    source: Source,
     line: Line,
     id: u32,
     ids: &mut [u32; 1024],
 ) -> Line
-    requires { ⌜ Rising wordsTable (now book) start count × Lined (wordsFrom (now book) count start) (now ids) line × (line .near ≤ count) ⌝ }
-    ensures lined { λ r. ⌜ Lined (wordsFrom (now (book .entry)) count start) (now (ids .exit)) r ⌝ }
-    ensures same { λ r. ⌜ (r .id ≡ id) × (r .near ≤ count) ⌝ }
+    requires { ⌜ Sourced (now book) (now work) source × Lined (parentsOf (bookOf (now book))) (now ids) line × (line .near ≤ reachOf source) ⌝ }
+    ensures lined { λ r. ⌜ Lined (parentsOf (bookOf (now (book .entry)))) (now (ids .exit)) r ⌝ }
+    ensures same { λ r. ⌜ (r .id ≡ id) × (r .near ≤ reachOf source) ⌝ }
 {
     if id == line.id {
         return line;
@@ -297,5 +300,5 @@ pub fn line_beside(
             near: line.near,
         };
     }
-    line_by_parent(book, start, count, line, id, ids)
+    line_by_parent(book, work, source, line, id, ids)
 }

@@ -1,4 +1,4 @@
--- A refusal's number is at most 8, and its place at most 1,048,576: an entry or a key is looked at only where the one before it lies within the book.
+-- A refusal's number is at most 12, and its place at most 1,048,576: an entry or a key is looked at only where the one before it lies within the book.
 use Prim.Native.Nat.{ℕ, zero, suc, _+_, _≤_}
 use mathlib.Core.Path.{_≡_, refl}
 use mathlib.Core.Bool.{Bool, true, false}
@@ -17,12 +17,12 @@ use Rattle.book.proofs.Tables.{table-rises}
 
 -- a refusal by this verdict has a number and a place that are not above these
 pub record Bounded (v : Verdict) : Type 0 where
-  pub bound : (n p : ℕ) → v ≡ Refused n p → (n ≤ 8) × (p ≤ 1048576)
+  pub bound : (n p : ℕ) → v ≡ Refused n p → (n ≤ 12) × (p ≤ 1048576)
 
 passes : Bounded Passed
 passes = record { bound = λ n p e. let z : _≡_ {A = ℕ} 0 1 = cc in absurd (omega arith) }
 
-refuses : (b : Bool) (n p : ℕ) → n ≤ 8 → p ≤ 1048576 → Bounded (refuse b n p)
+refuses : (b : Bool) (n p : ℕ) → n ≤ 12 → p ≤ 1048576 → Bounded (refuse b n p)
 unfolding refuse
 refuses true n p h k = record { bound = λ m q e. let x : n ≡ m = cc in let y : p ≡ q = cc in (omega arith, omega arith) }
 refuses false n p h k = passes
@@ -72,7 +72,8 @@ book-bounded s =
     in-turn _ _ (refuses _ 1 0 (omega arith) (omega arith)) (λ a.
     let small = ltb-false _ _ (test-fails _ _ _ a) in
     in-turn _ _ (refuses _ 2 0 (omega arith) (omega arith)) (λ b.
-    in-turn _ _ (refuses _ 3 0 (omega arith) (omega arith)) (λ _. parts-bounded s small (headerOf s) (ltb-false _ _ (test-fails _ _ _ b)))))
+    in-turn _ _ (refuses _ 3 0 (omega arith) (omega arith)) (λ _.
+    in-turn _ _ (refuses _ 12 0 (omega arith) (omega arith)) (λ _. parts-bounded s small (headerOf s) (ltb-false _ _ (test-fails _ _ _ b))))))
 
 -- the verdict on a book that is refused
 refused-by : (v : Verdict) (b : Book) {n p : ℕ} → outcomeOf v b ≡ Outcome.refused n p → v ≡ Refused n p
@@ -81,6 +82,6 @@ refused-by Passed b e = let z : _≡_ {A = ℕ} 0 1 = cc in absurd (omega arith)
 refused-by (Refused n p) b e = cc
 
 -- of every book that is refused
-pub refused-bounds : (s : List ℕ) {n p : ℕ} → parse s ≡ Outcome.refused n p → (n ≤ 8) × (p ≤ 1048576)
+pub refused-bounds : (s : List ℕ) {n p : ℕ} → parse s ≡ Outcome.refused n p → (n ≤ 12) × (p ≤ 1048576)
 unfolding parse
 refused-bounds s {n} {p} e = book-bounded s .bound n p (refused-by (bookVerdict s) (bookOf s) e)

@@ -1,5 +1,5 @@
--- Document 01's examples of refusals, and what small books are read as.
-use Prim.Native.Nat.{ℕ, _<_}
+-- Document 01's examples of refusals, those of document 02's 12, what small books are read as, and which parents are drawn.
+use Prim.Native.Nat.{ℕ, _+_, _^_, _<_}
 use mathlib.Core.Bool.{true}
 use mathlib.Core.Option.{none, some}
 use mathlib.Core.Path.{_≡_, refl}
@@ -7,9 +7,13 @@ use mathlib.Core.List.{List, [], _∷_, _++_, map}
 use lib.ListN.{length, replicate, length-replicate}
 use native.Mathlib.Omega.{arith}
 use borrow.Author.Tests.{lt-ltb}
-use Rattle.bits.specs.Bits.{bit, bitsAt}
+use Rattle.bits.specs.Bits.{bit, bitsAt, leAt}
 use Rattle.book.specs.declared.Verdict.the-variants.{Passed, Refused}
-use Rattle.book.specs.Book.{headerOf, placesOf, entryAt, dataType, tableFrom, keyHead, keyEnd, keysFrom, bookOf, parentsOf}
+use Rattle.findings.specs.Findings.{keep}
+use Rattle.book.specs.Book.{headerOf, placesOf, entryAt, dataType, tableFrom, keyHead, keyEnd, is, Bkey, keysFrom, bookOf}
+use Rattle.book.specs.Maps.{insert, insertAll, collect}
+use Rattle.book.specs.Words.{holds, idOf}
+use Rattle.book.specs.KeyMaps.{mapOf, drawnFrom, parentsOf}
 use Rattle.book.specs.Refusals.{refuse, _then_, badRest, entryVerdict, tableVerdict, keyVerdict, keysVerdict, partsVerdict, bookVerdict}
 
 zeros : ℕ → List ℕ
@@ -35,10 +39,13 @@ books =
     (header 0x10 1 0 ++ (15 ∷ zeros 27)) ∷
     (header 0x18 1 0 ++ (15 ∷ zeros 27)) ∷
     (header 0x10 0 0 ++ zeros 1) ∷
+    header 0x14 0 1 ∷
+    header 0x16 0 1 ∷
+    header 0x14 0 0 ∷
     []
 
 examples : map bookVerdict books ≡
-    Passed ∷ Refused 2 0 ∷ Refused 3 0 ∷ Refused 4 32 ∷ Refused 5 32 ∷ Refused 6 40 ∷ Refused 7 32 ∷ Passed ∷ Refused 8 32 ∷ []
+    Passed ∷ Refused 2 0 ∷ Refused 3 0 ∷ Refused 4 32 ∷ Refused 5 32 ∷ Refused 6 40 ∷ Refused 7 32 ∷ Passed ∷ Refused 8 32 ∷ Refused 12 0 ∷ Refused 3 0 ∷ Passed ∷ []
 unfolding zeros header listing books bit bitsAt refuse _then_ headerOf entryAt badRest entryVerdict tableVerdict keyHead keyEnd keyVerdict keysVerdict placesOf partsVerdict bookVerdict
 examples = refl
 
@@ -68,3 +75,22 @@ what-it-holds :
     record { btree = 9; keyType = 22; size = 258; inode = 4; offset = 7; snapshot = 1; value = 0xab ∷ 0xcd ∷ [] } ∷ [])
 unfolding zeros small bit bitsAt refuse _then_ headerOf entryAt badRest entryVerdict tableVerdict keyHead keyEnd keyVerdict keysVerdict placesOf partsVerdict bookVerdict dataType tableFrom keysFrom bookOf parentsOf
 what-it-holds = (refl, refl, refl, refl, refl, refl, refl, refl, refl)
+
+-- a key whose value has flags 2 and then these bytes
+snapshot : ℕ → ℕ → ℕ → List ℕ → Bkey
+snapshot btree keyType offset parent = record { btree = btree; keyType = keyType; size = 0; inode = 0; offset = offset; snapshot = 0; value = 2 ∷ 0 ∷ 0 ∷ 0 ∷ parent }
+
+-- 6 has no parent; of 4 the second key gives it, by the low half of its offset, and the others do not: one of 7 bytes, one of another type, one of
+-- another btree
+drawn-parents :
+    drawnFrom
+    (snapshot 9 22 6 (0 ∷ 0 ∷ 0 ∷ 0 ∷ []) ∷
+    snapshot 9 22 4 (5 ∷ 0 ∷ 0 ∷ 0 ∷ []) ∷
+    snapshot 9 22 (2 ^ 32 + 4) (7 ∷ 1 ∷ 0 ∷ 0 ∷ 9 ∷ []) ∷
+    snapshot 9 22 4 (8 ∷ 0 ∷ 0 ∷ []) ∷
+    snapshot 9 21 4 (8 ∷ 0 ∷ 0 ∷ 0 ∷ []) ∷
+    snapshot 8 22 4 (8 ∷ 0 ∷ 0 ∷ 0 ∷ []) ∷
+    [])
+    ≡ (4, 263) ∷ (6, 0) ∷ []
+unfolding snapshot leAt keep insert insertAll collect is holds idOf mapOf drawnFrom
+drawn-parents = refl

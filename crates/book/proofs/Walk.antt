@@ -1,7 +1,7 @@
 -- What an accepted book fixes, and the step by which a rule walks over its keys.
 use Prim.Native.Nat.{ℕ, zero, suc, _+_, _-_, _*_, _≤_, _<_}
 use mathlib.Core.Path.{_≡_, refl, ap}
-use mathlib.Core.Bool.{Bool}
+use mathlib.Core.Bool.{Bool, true, false, cond}
 use mathlib.Core.List.{List, [], _∷_}
 use native.Mathlib.Omega.{arith}
 use lib.ListN.{length, take, drop, length-take, length-drop}
@@ -15,7 +15,8 @@ use Rattle.book.specs.declared.KeyFront.{KeyFront}
 use Rattle.book.specs.declared.Verdict.{Verdict}
 use Rattle.book.specs.declared.Verdict.the-variants.{Passed, Refused}
 use Rattle.book.specs.declared.Scanned.the-variants as scanned
-use Rattle.book.specs.Book.{headerOf, placesOf, wordsTable, gensTable, allocTable, wordsFrom, gensFrom, allocFrom, keyHead, keyEnd, keyOf, keysFrom, bookOf, parentsOf}
+use Rattle.book.specs.Book.{headerOf, placesOf, wordsTable, gensTable, allocTable, wordsFrom, gensFrom, allocFrom, keyHead, keyEnd, keyOf, keysFrom, bookOf}
+use Rattle.book.specs.KeyMaps.{drawnFrom, parentsOf}
 use Rattle.book.specs.Refusals.{keysVerdict, partsVerdict, bookVerdict, Outcome, outcomeOf, parse, scanOf}
 use Rattle.book.specs.Walk.{Opened, KeysFit, Rising, frontOf}
 use Rattle.book.proofs.Laws.{both-passed, test-fails, key-end, key-fits, scan-refused, scan-accepted}
@@ -36,7 +37,8 @@ pub record Parts (s : List ℕ) (h : Header) (at : Places) : Type 0 where
   pub keys-fit : KeysFit s (h .keys) (at .keys)
   pub keys : bookOf s .keys ≡ keysFrom s (h .keys) (at .keys)
   pub parents-rise : Rising wordsTable s (at .parents) (h .parents)
-  pub parents : parentsOf (bookOf s) ≡ wordsFrom s (h .parents) (at .parents)
+  pub parents : h .drawn ≡ false → parentsOf (bookOf s) ≡ wordsFrom s (h .parents) (at .parents)
+  pub drawn : h .drawn ≡ true → parentsOf (bookOf s) ≡ drawnFrom (keysFrom s (h .keys) (at .keys))
   pub subvolumes-rise : Rising wordsTable s (at .subvolumes) (h .subvolumes)
   pub subvolumes : bookOf s .subvolumes ≡ wordsFrom s (h .subvolumes) (at .subvolumes)
   pub gens-rise : Rising gensTable s (at .gens) (h .gens)
@@ -50,7 +52,7 @@ unfolding bookVerdict partsVerdict placesOf bookOf parentsOf
 accepted-parts s accepted =
     let one = both-passed _ _ accepted in
     let two = both-passed _ _ (one .1) in
-    let a = both-passed _ _ (both-passed _ _ (two .1) .1) in
+    let a = both-passed _ _ (both-passed _ _ (both-passed _ _ (two .1) .1) .1) in
     let b = both-passed _ _ (a .1) in
     let c = both-passed _ _ (b .1) in
     let d = both-passed _ _ (c .1) in
@@ -58,13 +60,15 @@ accepted-parts s accepted =
     let parents = table-rises wordsTable s _ _ long (a .0) in
     let subvolumes = table-rises wordsTable s _ _ (omega (arith, parents .inside)) (b .0) in
     let gens = table-rises gensTable s _ _ (omega (arith, subvolumes .inside)) (c .0) in
+    let by : Bool → List (ℕ × ℕ) = λ d. cond d (drawnFrom (bookOf s .keys)) (bookOf s .parents) in
     record {
       small = ltb-false _ _ (test-fails _ _ _ (one .0));
       header = refl;
       keys-fit = keys-fit _ s _ _ (d .1);
       keys = refl;
       parents-rise = parents;
-      parents = refl;
+      parents = λ e. ap by e;
+      drawn = λ e. ap by e;
       subvolumes-rise = subvolumes;
       subvolumes = refl;
       gens-rise = gens;

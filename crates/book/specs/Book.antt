@@ -18,12 +18,13 @@ abbrev pub headerSize : ℕ
 headerSize = 32
 
 -- "layout 4 bits .. trees mark 1 .. spare 11, version 16, first bucket 16, key count 16; device 64; bucket count 64;
--- counts of parents, subvolumes, gens, alloc, 16 each"
+-- counts of parents, subvolumes, gens, alloc, 16 each"; "The spare header bit after the trees mark becomes the drawn mark"
 unfoldable pub headerOf : List ℕ → Header
 headerOf s = record {
   layout = bitsAt s 0 4;
   trees = eqb (bitsAt s 4 1) 1;
-  spare = bitsAt s 5 11;
+  drawn = eqb (bitsAt s 5 1) 1;
+  spare = bitsAt s 6 10;
   version = bitsAt s 16 16;
   «first_bucket» = bitsAt s 32 16;
   keys = bitsAt s 48 16;
@@ -160,7 +161,3 @@ bookOf s =
       alloc = allocFrom s (h .alloc) (at .alloc);
       keys = keysFrom s (h .keys) (at .keys);
     }
-
--- each id with its parent: every rule and question that goes by parents reads them here
-unfoldable pub parentsOf : Book → List (ℕ × ℕ)
-parentsOf b = b .parents

@@ -1,4 +1,6 @@
 pub mod Maps
 pub mod Book
+pub mod Words
+pub mod KeyMaps
 pub mod Refusals
 pub mod Walk

@@ -1,4 +1,4 @@
--- Which bytes are a book: document 01's refusals 1 to 8, "1, 2, 3; then entries from front to back, at each 4, 5, 6, 7; then 8".
+-- Which bytes are a book: document 01's refusals 1 to 8 and document 02's 12, which is "tested after 3": "1, 2, 3; then entries from front to back, at each 4, 5, 6, 7; then 8".
 use Prim.Native.Nat.{ℕ, zero, suc, _+_, _-_, _/_, _%_}
 use mathlib.Core.Bool.{Bool, true, false, not, _&&_, _||_}
 use mathlib.Core.List.{List}
@@ -62,12 +62,14 @@ partsVerdict s h at =
     tableVerdict allocTable s (at .alloc) (h .alloc) (at .alloc) then
     keysVerdict (h .trees) s (h .keys) (at .keys)
 
--- 1, "book over 1,048,576 bytes"; 2, "under 32 bytes"; 3, "layout not 1, or spare header bit set"; then the parts
+-- 1, "book over 1,048,576 bytes"; 2, "under 32 bytes"; 3, "layout not 1, or spare header bit set"; 12, "drawn mark set with a non-zero
+-- parents count"; then the parts
 unfoldable pub bookVerdict : List ℕ → Verdict
 bookVerdict s =
     refuse (ltb 1048576 (length s)) 1 0 then
     refuse (ltb (length s) headerSize) 2 0 then
     refuse (not (eqb (headerOf s .layout) 1) || not (eqb (headerOf s .spare) 0)) 3 0 then
+    refuse (headerOf s .drawn && not (eqb (headerOf s .parents) 0)) 12 0 then
     partsVerdict s (headerOf s) (placesOf (headerOf s))
 
 -- what bytes are as a book: the book, or a refusal's number and place
@@ -80,7 +82,7 @@ unfoldable pub outcomeOf : Verdict → Book → Outcome
 outcomeOf verdict.Passed b = accepted b
 outcomeOf (verdict.Refused number place) b = refused number place
 
--- "A book is accepted if none of 1 to 8 is given"
+-- "A book is accepted if none of 1 to 8 is given"; by 12, "a book so refused is not accepted"
 unfoldable pub parse : List ℕ → Outcome
 parse s = outcomeOf (bookVerdict s) (bookOf s)
 

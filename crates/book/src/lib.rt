@@ -6,10 +6,12 @@ ghost use Rattle.book.specs.Book.{keyHead};
 ghost use Rattle.book.specs.Walk.{frontOf};
 use bits::Cursor;
 
-// The first 32 bytes, field by field. The mark `trees` says that the snapshot_trees btree is present.
+// The first 32 bytes, field by field. The mark `trees` says that the snapshot_trees btree is present, the mark `drawn` that the parents are
+// those of the snapshot keys.
 pub struct Header {
     pub layout: u8,
     pub trees: bool,
+    pub drawn: bool,
     pub spare: u16,
     pub version: u16,
     pub first_bucket: u16,

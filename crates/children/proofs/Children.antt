@@ -29,13 +29,14 @@ use Rattle.states.specs.StateDistance.{subvolDeleted}
 use Rattle.walk.specs.Keys.{keyAt, AtKey, gather, anyKey}
 use Rattle.walk.proofs.Gather.{at-length, at-long, long-enough}
 use Rattle.walk.proofs.Sets.{has-nil, other-btree}
-use Rattle.maps.specs.Maps.{mapOf}
+use Rattle.book.specs.KeyMaps.{mapOf}
 use Rattle.maps.specs.Places.{placePair, numberIn, whichIn, lastPlace, lastPlaces}
 use Rattle.maps.specs.Sorted.{AllPairs}
 use Rattle.maps.proofs.Pairs.{which-part}
 use Rattle.maps.proofs.Last.{number-at}
-use Rattle.maps.proofs.Places.{Gives, Held, wordAt, find-law, each-map, set-law}
-use Rattle.snapshots.specs.Words.{word, holds}
+use Rattle.maps.specs.LastKeys.{wordAt}
+use Rattle.maps.proofs.Places.{Gives, Held, find-law, each-map, set-law}
+use Rattle.book.specs.Words.{word, holds}
 use Rattle.children.specs.SubvolumeChildren.{isDeleted, hasFsParent, fsParents, isEntry, isEntryOf, missingEntry, wrongEntry}
 use Rattle.children.specs.Steps.{childPair, wrongWord, anyWrong, AtChild}
 

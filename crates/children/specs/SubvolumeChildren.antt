@@ -8,10 +8,10 @@ use lib.Dec.{eqb, leb}
 use Rattle.findings.specs.Findings.{Finding, finding, when, only, each}
 use Rattle.book.specs.Maps.{lookup}
 use Rattle.book.specs.Book.{Bkey, Book, is}
-use Rattle.maps.specs.Maps.{mapOf}
+use Rattle.book.specs.KeyMaps.{mapOf}
 use Rattle.states.specs.StateDistance.{subvolDeleted}
 use Rattle.walk.specs.Keys.{anyKey}
-use Rattle.snapshots.specs.Words.{word, holds}
+use Rattle.book.specs.Words.{word, holds}
 
 -- a deleted subvolume: its state is the word at 40
 unfoldable pub isDeleted : Bkey → Bool

@@ -10,7 +10,7 @@ ghost use Rattle.book.specs.Book.{bookOf};
 ghost use Rattle.book.specs.Walk.{Opened, maybeU32};
 ghost use Rattle.walk.specs.Keys.{keyAt, AtKey, gather};
 ghost use Rattle.maps.specs.Sorted.{AllPairs, lastAt};
-ghost use Rattle.snapshots.specs.Words.{word};
+ghost use Rattle.book.specs.Words.{word};
 ghost use Rattle.children.specs.SubvolumeChildren.{
   hasFsParent,
   fsParents,

@@ -1,6 +1,6 @@
 -- What the answers of the calls below say.
 use Prim.Native.Nat.{ℕ, _+_, _*_, _/_, _%_, _^_, _≤_, _<_}
-use mathlib.Core.Path.{_≡_, refl, sym, ap, _∙_}
+use mathlib.Core.Path.{_≡_, refl, sym, ap, subst, _∙_}
 use mathlib.Core.Bool.{Bool, true, false, cond}
 use mathlib.Core.List.{List, [], _∷_, _++_, append-assoc, append-nil}
 use mathlib.Core.Option.{Option, none, some}
@@ -12,13 +12,18 @@ use borrow.Author.Tests.{lt-ltb, le-ltb}
 use Rattle.findings.proofs.Walk.{drop-at, drop-past}
 use Rattle.book.specs.declared.Header.{Header}
 use Rattle.book.specs.declared.Places.{Places}
-use Rattle.book.specs.Book.{parentsOf, bookOf}
+use Rattle.book.specs.Book.{bookOf}
+use Rattle.book.specs.KeyMaps.{parentsOf}
 use Rattle.book.specs.Walk.{Opened}
 use Rattle.book.proofs.Walk.{parts}
 use Rattle.rules.specs.Rules.{findingsOf}
 use Rattle.book.specs.Refusals.{Outcome, parse}
 use Rattle.book.proofs.Bounds.{refused-bounds}
 use Rattle.parents.specs.declared.Root.{Root}
+use Rattle.parents.specs.declared.Source.{Source}
+use Rattle.parents.specs.declared.Source.the-variants.{Table, Keys}
+use Rattle.parents.specs.Sources.{Sourced}
+use Rattle.dockwrench.specs.Steps.{askedSource}
 use Rattle.parents.specs.declared.Root.the-variants as root
 use Rattle.parents.specs.Roots.{rootOf}
 use Rattle.parents.specs.Chains.{rootIs}
@@ -29,7 +34,16 @@ use Rattle.dockwrench.specs.declared.Ancestor.the-variants as ancestor
 use Rattle.dockwrench.specs.declared.Availability.the-variants as availability
 use Rattle.dockwrench.specs.Answers.{Answer, workShort, zeros, countIn, checkBook, checkOf, checkedAnswer, ancestorBy, ancestorOf, availabilityBy, availabilityOf, packed, unpacked}
 
--- the answers of `root_of`
+-- where a question finds the parents of an accepted book
+pub asked-sourced : (s w : List ℕ) {h : Header} {at : Places} {src : Source} → Opened s h at → src ≡ askedSource h at → Sourced s w src
+unfolding askedSource Sourced
+asked-sourced s w {h} {at} o e = subst (Sourced s w) (sym e) (by (h .drawn) refl)
+  where
+    by : (d : Bool) → h .drawn ≡ d → Sourced s w (cond d (Keys (at .keys) (h .keys)) (Table (at .parents) (h .parents)))
+    by true d = record { small = parts o .small; fit = parts o .keys-fit; drawn = parts o .drawn d }
+    by false d = record { rises = parts o .parents-rise; table = parts o .parents d }
+
+-- the answers of `climb::root_above`
 pub found-root : (o : Option (ℕ × ℕ)) {x n : ℕ} → rootIs o ≡ root.At x n → ancestor.Root x n ≡ ancestorBy o
 unfolding ancestorBy
 found-root o e = rw (root-at o e)
@@ -59,7 +73,7 @@ unfolding ancestorOf
 ancestor-refused (Outcome.accepted b) id e = not-refused (rootOf (parentsOf b) id) e
 ancestor-refused (Outcome.refused m p) id e = cc
 
-pub ancestor-bounds : (s : List ℕ) (id : ℕ) {m p : ℕ} → ancestorOf (parse s) id ≡ ancestor.Refused m p → (m ≤ 8) × (p ≤ 1048576)
+pub ancestor-bounds : (s : List ℕ) (id : ℕ) {m p : ℕ} → ancestorOf (parse s) id ≡ ancestor.Refused m p → (m ≤ 12) × (p ≤ 1048576)
 ancestor-bounds s id e = refused-bounds s (ancestor-refused (parse s) id e)
 
 -- the answers of the availability question
@@ -73,7 +87,7 @@ unfolding availabilityOf
 available-refused (Outcome.accepted b) id e = gone-refused _ e
 available-refused (Outcome.refused m p) id e = cc
 
-pub available-bounds : (s : List ℕ) (id : ℕ) {m p : ℕ} → availabilityOf (parse s) id ≡ availability.Refused m p → (m ≤ 8) × (p ≤ 1048576)
+pub available-bounds : (s : List ℕ) (id : ℕ) {m p : ℕ} → availabilityOf (parse s) id ≡ availability.Refused m p → (m ≤ 12) × (p ≤ 1048576)
 available-bounds s id e = refused-bounds s (available-refused (parse s) id e)
 
 -- the first i words are zero, and the others as they were
@@ -133,12 +147,12 @@ count-no-refusal : (b : Bool) (n : ℕ) {m p : ℕ} {A : Type 0} → cond b (che
 count-no-refusal true n e = let z : _≡_ {A = ℕ} 0 1 = cc in absurd (omega arith)
 count-no-refusal false n e = let z : _≡_ {A = ℕ} 0 1 = cc in absurd (omega arith)
 
-nine : (b : Bool) (room n : ℕ) {m p : ℕ} → cond b (checked.Refused 9 0) (countIn room n) ≡ checked.Refused m p → (m ≤ 9) × (p ≤ 1048576)
+nine : (b : Bool) (room n : ℕ) {m p : ℕ} → cond b (checked.Refused 9 0) (countIn room n) ≡ checked.Refused m p → (m ≤ 12) × (p ≤ 1048576)
 unfolding countIn
 nine true room n {m} {p} e = let x : 9 ≡ m = cc in let y : 0 ≡ p = cc in (omega arith, omega arith)
 nine false room n e = count-no-refusal (ltb room (17 * n)) n e
 
-bounds-by : (s : List ℕ) (room words : ℕ) (o : Outcome) → parse s ≡ o → {m p : ℕ} → checkOf o room words ≡ checked.Refused m p → (m ≤ 9) × (p ≤ 1048576)
+bounds-by : (s : List ℕ) (room words : ℕ) (o : Outcome) → parse s ≡ o → {m p : ℕ} → checkOf o room words ≡ checked.Refused m p → (m ≤ 12) × (p ≤ 1048576)
 unfolding checkOf checkBook
 bounds-by s room words (Outcome.accepted b) is e = nine (workShort b words) room (length (findingsOf b)) e
 bounds-by s room words (Outcome.refused n q) is {m} {p} e =
@@ -147,7 +161,7 @@ bounds-by s room words (Outcome.refused n q) is {m} {p} e =
     let b = refused-bounds s is in
     (omega (arith, b .0), omega (arith, b .1))
 
-pub check-bounds : (s : List ℕ) (room words : ℕ) {m p : ℕ} → checkOf (parse s) room words ≡ checked.Refused m p → (m ≤ 9) × (p ≤ 1048576)
+pub check-bounds : (s : List ℕ) (room words : ℕ) {m p : ℕ} → checkOf (parse s) room words ≡ checked.Refused m p → (m ≤ 12) × (p ≤ 1048576)
 check-bounds s room words e = bounds-by s room words (parse s) refl e
 
 same : {n p c n′ p′ c′ : ℕ} → n ≡ n′ → p ≡ p′ → c ≡ c′

@@ -1,7 +1,8 @@
--- A forest book in bytes, of two snapshots and a tree record: what it is read as, its list, and what the main call leaves in both areas.
+-- A forest book in bytes, of two snapshots and a tree record, with the drawn mark and without: what it is read as, its list, and what the main
+-- call leaves in both areas.
 -- With the right depth word it is sound, and with another it is not, and the finding stands in the buffer.
 use Prim.Native.Nat.{ℕ}
-use mathlib.Core.Bool.{cond}
+use mathlib.Core.Bool.{Bool, true, false, cond}
 use mathlib.Core.Path.{_≡_, refl}
 use mathlib.Core.List.{List, [], _∷_, _++_}
 use lib.ListN.{length}
@@ -19,20 +20,25 @@ use Rattle.dockwrench.specs.Decode.{decode}
 
 -- THE BYTES
 
--- layout 1 and the trees mark, version 1,062, first bucket 0, 3 keys; device 0; 0 buckets; 2 parents, 1 subvolume, no gens, no alloc
-header : List ℕ
-header =
-    0x18 ∷ 0x00 ∷ 0x04 ∷ 0x26 ∷ 0x00 ∷ 0x00 ∷ 0x00 ∷ 0x03 ∷
+-- layout 1 and the trees mark, with the drawn mark or without, version 1,062, first bucket 0, 3 keys; device 0; 0 buckets; 2 parents or none,
+-- 1 subvolume, no gens, no alloc
+header : Bool → List ℕ
+header drawn =
+    cond drawn 0x1c 0x18 ∷ 0x00 ∷ 0x04 ∷ 0x26 ∷ 0x00 ∷ 0x00 ∷ 0x00 ∷ 0x03 ∷
     0x00 ∷ 0x00 ∷ 0x00 ∷ 0x00 ∷ 0x00 ∷ 0x00 ∷ 0x00 ∷ 0x00 ∷
     0x00 ∷ 0x00 ∷ 0x00 ∷ 0x00 ∷ 0x00 ∷ 0x00 ∷ 0x00 ∷ 0x00 ∷
-    0x00 ∷ 0x02 ∷ 0x00 ∷ 0x01 ∷ 0x00 ∷ 0x00 ∷ 0x00 ∷ 0x00 ∷ []
+    0x00 ∷ cond drawn 0x00 0x02 ∷ 0x00 ∷ 0x01 ∷ 0x00 ∷ 0x00 ∷ 0x00 ∷ 0x00 ∷ []
 
--- snapshot 1 has no parent, snapshot 2 has parent 1; subvolume 5 has snapshot 1
-tables : List ℕ
-tables =
+-- snapshot 1 has no parent, snapshot 2 has parent 1: where there is a table
+parents : Bool → List ℕ
+parents true = []
+parents false =
     0x00 ∷ 0x00 ∷ 0x00 ∷ 0x01 ∷ 0x00 ∷ 0x00 ∷ 0x00 ∷ 0x00 ∷
-    0x00 ∷ 0x00 ∷ 0x00 ∷ 0x02 ∷ 0x00 ∷ 0x00 ∷ 0x00 ∷ 0x01 ∷
-    0x00 ∷ 0x00 ∷ 0x00 ∷ 0x05 ∷ 0x00 ∷ 0x00 ∷ 0x00 ∷ 0x01 ∷ []
+    0x00 ∷ 0x00 ∷ 0x00 ∷ 0x02 ∷ 0x00 ∷ 0x00 ∷ 0x00 ∷ 0x01 ∷ []
+
+-- subvolume 5 has snapshot 1
+subvolumes : List ℕ
+subvolumes = 0x00 ∷ 0x00 ∷ 0x00 ∷ 0x05 ∷ 0x00 ∷ 0x00 ∷ 0x00 ∷ 0x01 ∷ []
 
 -- btree 9, type 22, 40 value bytes, offset 1; parent 0, child 2, tree 1, depth 0, skip word 1
 upper : List ℕ
@@ -66,14 +72,15 @@ lower depth =
     depth ∷ 0x00 ∷ 0x00 ∷ 0x00 ∷ 0x01 ∷ 0x00 ∷ 0x00 ∷ 0x00 ∷
     0x00 ∷ 0x00 ∷ 0x00 ∷ 0x00 ∷ 0x00 ∷ 0x00 ∷ 0x00 ∷ 0x00 ∷ []
 
--- the book with this depth of snapshot 2: 228 bytes
-pub bytes : ℕ → List ℕ
-bytes depth = header ++ (tables ++ (upper ++ (tree ++ lower depth)))
+-- the book with this depth of snapshot 2: 212 bytes with the drawn mark, 228 without
+pub bytes : Bool → ℕ → List ℕ
+bytes drawn depth = header drawn ++ (parents drawn ++ (subvolumes ++ (upper ++ (tree ++ lower depth))))
 
 -- it is accepted, whatever the depth
-pub accepted : (depth : ℕ) → parse (bytes depth) ≡ Outcome.accepted (book 0 2 1 depth 1 1)
-unfolding bytes header tables upper tree lower book bit bitsAt leAt refuse _then_ headerOf entryAt badRest entryVerdict tableVerdict keyHead keyEnd keyVerdict keysVerdict placesOf partsVerdict bookVerdict dataType tableFrom keysFrom bookOf outcomeOf parse
-accepted depth = refl
+pub accepted : (drawn : Bool) (depth : ℕ) → parse (bytes drawn depth) ≡ Outcome.accepted (book drawn 0 2 1 depth 1 1)
+unfolding bytes header parents subvolumes upper tree lower book bit bitsAt leAt refuse _then_ headerOf entryAt badRest entryVerdict tableVerdict keyHead keyEnd keyVerdict keysVerdict placesOf partsVerdict bookVerdict dataType tableFrom keysFrom bookOf outcomeOf parse
+accepted true depth = refl
+accepted false depth = refl
 
 -- THE MAIN CALL
 
@@ -113,24 +120,24 @@ pub record Shown (s : List ℕ) (b : Book) (fs : List Finding) (after : List ℕ
 
 -- THE SOUND ONE, of depth 1: nothing is found, and the buffer is as it was
 
-sound-answer : checkOf (parse (bytes 1)) (length buffer) (length work) ≡ checked.Found 0
+sound-answer : (drawn : Bool) → checkOf (parse (bytes drawn 1)) (length buffer) (length work) ≡ checked.Found 0
 unfolding buffer work book workShort countIn
-sound-answer = answer-is (bytes 1) (book 0 2 1 1 1 1) [] 20 6 (accepted 1) no-findings
+sound-answer drawn = answer-is (bytes drawn 1) (book drawn 0 2 1 1 1 1) [] 20 6 (accepted drawn 1) (no-findings drawn)
 
-pub sound-shown : Shown (bytes 1) (book 0 2 1 1 1 1) [] buffer × Sound (book 0 2 1 1 1 1)
+pub sound-shown : (drawn : Bool) → Shown (bytes drawn 1) (book drawn 0 2 1 1 1 1) [] buffer × Sound (book drawn 0 2 1 1 1 1)
 unfolding buffer work book workShort put bookWork zeros decode
-sound-shown = (
+sound-shown drawn = (
   record {
-    reads = accepted 1;
-    forest = forest-book 0 2 1 1 1 1;
-    list = no-findings;
-    answer = sound-answer;
-    buffer-after = buffer-is (bytes 1) (book 0 2 1 1 1 1) [] 6 buffer (accepted 1) no-findings;
-    work-after = work-is (bytes 1) (book 0 2 1 1 1 1) work (accepted 1);
+    reads = accepted drawn 1;
+    forest = forest-book drawn 0 2 1 1 1 1;
+    list = no-findings drawn;
+    answer = sound-answer drawn;
+    buffer-after = buffer-is (bytes drawn 1) (book drawn 0 2 1 1 1 1) [] 6 buffer (accepted drawn 1) (no-findings drawn);
+    work-after = work-is (bytes drawn 1) (book drawn 0 2 1 1 1 1) work (accepted drawn 1);
     decoded = refl;
-    demand = demand-3 (book 0 2 1 1 1 1) (forest-book 0 2 1 1 1 1);
+    demand = demand-3 (book drawn 0 2 1 1 1 1) (forest-book drawn 0 2 1 1 1 1);
   },
-  sound,
+  sound drawn,
 )
 
 -- THE UNSOUND ONE, of depth 0: kind 42, snapshot 2 and its depth word, in 17 bytes; the last three are as they were
@@ -138,22 +145,22 @@ sound-shown = (
 unfoldable pub buffer-of-42 : List ℕ
 buffer-of-42 = 42 ∷ 0 ∷ 0 ∷ 0 ∷ 0 ∷ 0 ∷ 0 ∷ 0 ∷ 2 ∷ 0 ∷ 0 ∷ 0 ∷ 0 ∷ 0 ∷ 0 ∷ 0 ∷ 0 ∷ 9 ∷ 9 ∷ 9 ∷ []
 
-unsound-answer : checkOf (parse (bytes 0)) (length buffer) (length work) ≡ checked.Found 1
+unsound-answer : (drawn : Bool) → checkOf (parse (bytes drawn 0)) (length buffer) (length work) ≡ checked.Found 1
 unfolding buffer work book workShort countIn
-unsound-answer = answer-is (bytes 0) (book 0 2 1 0 1 1) (finding 42 2 0 ∷ []) 20 6 (accepted 0) one-finding
+unsound-answer drawn = answer-is (bytes drawn 0) (book drawn 0 2 1 0 1 1) (finding 42 2 0 ∷ []) 20 6 (accepted drawn 0) (one-finding drawn)
 
-pub unsound-shown : Shown (bytes 0) (book 0 2 1 0 1 1) (finding 42 2 0 ∷ []) buffer-of-42 × (Sound (book 0 2 1 0 1 1) → ⊥)
+pub unsound-shown : (drawn : Bool) → Shown (bytes drawn 0) (book drawn 0 2 1 0 1 1) (finding 42 2 0 ∷ []) buffer-of-42 × (Sound (book drawn 0 2 1 0 1 1) → ⊥)
 unfolding buffer work buffer-of-42 book workShort bytesOf encode put bookWork zeros beAt decode
-unsound-shown = (
+unsound-shown drawn = (
   record {
-    reads = accepted 0;
-    forest = forest-book 0 2 1 0 1 1;
-    list = one-finding;
-    answer = unsound-answer;
-    buffer-after = buffer-is (bytes 0) (book 0 2 1 0 1 1) (finding 42 2 0 ∷ []) 6 buffer (accepted 0) one-finding;
-    work-after = work-is (bytes 0) (book 0 2 1 0 1 1) work (accepted 0);
+    reads = accepted drawn 0;
+    forest = forest-book drawn 0 2 1 0 1 1;
+    list = one-finding drawn;
+    answer = unsound-answer drawn;
+    buffer-after = buffer-is (bytes drawn 0) (book drawn 0 2 1 0 1 1) (finding 42 2 0 ∷ []) 6 buffer (accepted drawn 0) (one-finding drawn);
+    work-after = work-is (bytes drawn 0) (book drawn 0 2 1 0 1 1) work (accepted drawn 0);
     decoded = refl;
-    demand = demand-3 (book 0 2 1 0 1 1) (forest-book 0 2 1 0 1 1);
+    demand = demand-3 (book drawn 0 2 1 0 1 1) (forest-book drawn 0 2 1 0 1 1);
   },
-  unsound,
+  unsound drawn,
 )

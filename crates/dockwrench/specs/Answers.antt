@@ -7,7 +7,8 @@ use mathlib.Core.Option.{Option, none, some}
 use lib.ListN.{length, replicate}
 use lib.Dec.{ltb}
 use Rattle.findings.specs.Findings.{put}
-use Rattle.book.specs.Book.{Book, parentsOf}
+use Rattle.book.specs.Book.{Book}
+use Rattle.book.specs.KeyMaps.{parentsOf}
 use Rattle.book.specs.Refusals.{Outcome}
 use Rattle.parents.specs.Roots.{rootOf}
 use Rattle.subvolumes.specs.SubvolumeStates.{isUnavailable}
@@ -67,7 +68,7 @@ unfoldable pub ancestorBy : Option (ℕ × ℕ) → Ancestor
 ancestorBy none = ancestor.NoRoot
 ancestorBy (some root) = ancestor.Root (root .0) (root .1)
 
--- the answer of the ancestor question: "refuse by 1 to 8 with the same place"
+-- the answer of the ancestor question: "refuse by 1 to 8 with the same place"; "The questions give" 12 "too"
 unfoldable pub ancestorOf : Outcome → ℕ → Ancestor
 ancestorOf (Outcome.accepted b) id = ancestorBy (rootOf (parentsOf b) id)
 ancestorOf (Outcome.refused number place) id = ancestor.Refused number place

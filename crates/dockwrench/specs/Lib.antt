@@ -1,3 +1,4 @@
 pub mod Answers
 pub mod Claim
 pub mod Decode
+pub mod Steps

@@ -4,11 +4,13 @@ ghost use Prim.Native.Nat.{_+_, _*_, _^_, _<_, _≤_};
 ghost use lib.ListN.{length};
 ghost use Rattle.findings.specs.Findings.{sink, Found};
 ghost use Rattle.rules.specs.Rules.{findingsOf};
-ghost use Rattle.book.specs.Book.{bookOf, parentsOf};
+ghost use Rattle.book.specs.Book.{bookOf};
+ghost use Rattle.book.specs.KeyMaps.{parentsOf};
 ghost use Rattle.book.specs.Refusals.{parse};
 ghost use Rattle.book.specs.Walk.{Opened};
 ghost use Rattle.parents.specs.Roots.{rootOf};
 ghost use Rattle.subvolumes.specs.SubvolumeStates.{isUnavailable};
+ghost use Rattle.dockwrench.specs.Steps.{askedSource};
 ghost use Rattle.dockwrench.specs.Answers.{
   countIn,
   checkBook,
@@ -33,6 +35,7 @@ use book::Header;
 use book::Places;
 use book::Scanned;
 use parents::Root;
+use parents::Source;
 
 // What the main call answers: the count of findings, all of which are in the buffer; the full count where not all fit; or a refusal's
 // number and place.
@@ -130,12 +133,24 @@ pub fn check(book: &[u8], findings: &mut [u8], work: &mut [u64]) -> Checked
     }
 }
 
+// Where a question finds the parents: it has no work area, and walks over the keys of a book with the drawn mark.
+fn asked_source(h: Header, at: Places) -> Source
+    ensures { λ r. ⌜ r ≡ askedSource h at ⌝ }
+{
+    if h.drawn {
+        return Source::Keys(at.keys, h.keys as usize);
+    }
+    Source::Table(at.parents, h.parents as usize)
+}
+
 // The root above an id, in an accepted book.
 fn root_above(book: &[u8], h: Header, at: Places, id: u32) -> Ancestor
     requires { ⌜ Opened (now book) h at ⌝ }
     ensures { λ r. ⌜ r ≡ ancestorBy (rootOf (parentsOf (bookOf (now (book .entry)))) id) ⌝ }
 {
-    let found = parents::root_of(book, at.parents, h.parents as usize, id);
+    let source = asked_source(h, at);
+    let none = [0u64; 0];
+    let found = climb::root_above(book, &none, source, id);
     match found {
         Root::At { root, links } => Ancestor::Root { root, links },
         Root::NoRoot => Ancestor::NoRoot,

@@ -7,8 +7,9 @@ use mathlib.Core.Path.{_≡_, refl, ap, sym, subst, _∙_}
 use Prim.Native.Nat.{ℕ, zero, suc, _+_, _≤_}
 use native.Mathlib.Omega.{arith}
 use Rattle.forest.specs.Lists.{_∈_}
-use Rattle.book.specs.Book.{Bkey, Book, parentsOf}
-use Rattle.snapshots.specs.Words.{parentWord}
+use Rattle.book.specs.Book.{Bkey, Book}
+use Rattle.book.specs.KeyMaps.{parentsOf}
+use Rattle.book.specs.Words.{parentWord}
 use Rattle.forest.specs.Forest.{snapshots, ForestBook, Link, Links, Ancestor}
 use Rattle.book.specs.Maps.{lookup}
 use Rattle.parents.specs.Roots.{rootOf}

@@ -1,5 +1,5 @@
 -- In a forest book each map reads its keys: an id has in it the word of the one key with that offset.
-use mathlib.Core.Bool.{Bool, true, false, _&&_}
+use mathlib.Core.Bool.{Bool, true, false, cond, _&&_}
 use mathlib.Core.Logic.{_⊎_, inl, inr}
 use mathlib.Core.List.{List, [], _∷_, map, List·Memᴰ·head, List·Memᴰ·tail, List·Memᴰ·not-nil}
 use mathlib.Core.Option.{none, some}
@@ -12,11 +12,11 @@ use lib.Dec.{eqb, leb}
 use borrow.Author.Tests.{eq-eqb, le-leb}
 use Rattle.forest.specs.Lists.{_∈_, Distinct}
 use Rattle.findings.specs.Findings.{keep}
-use Rattle.book.specs.Book.{Bkey, Book, is, parentsOf}
-use Rattle.snapshots.specs.Words.{parentWord, treeWord, masterWord, rootWord, idOf, holds}
-use Rattle.forest.specs.Forest.{keysOf, snapshots, records, WellFormed, ForestBook}
+use Rattle.book.specs.Book.{Bkey, Book, is}
+use Rattle.book.specs.Words.{parentWord, treeWord, masterWord, rootWord, idOf, holds}
+use Rattle.forest.specs.Forest.{keysOf, snapshots, records, WellFormed, TrueParents, ForestBook}
 use Rattle.book.specs.Maps.{lookup, collect}
-use Rattle.maps.specs.Maps.{mapOf}
+use Rattle.book.specs.KeyMaps.{mapOf, drawnFrom, parentsOf}
 use Rattle.links.specs.SnapshotLinks.{treeMap, treeOfMap}
 use Rattle.forest.proofs.Lists.{map-mem, mem-map, map-same, keep-same, mem-keep, distinct-same}
 use Rattle.forest.proofs.Maps.{eq-or-not, lookup-here, lookup-past, lookup-mem, collect-lookup, collect-mem, lastOf-distinct, ids}
@@ -103,19 +103,6 @@ module _ (b : Book) (F : ForestBook b) where
   pub record-same : (s u : Bkey) → s ∈ records b → u ∈ records b → s .offset ≡ u .offset → s ≡ u
   record-same = distinct-same (λ (k : Bkey). k .offset) (records b) (F .records-distinct)
 
-  -- the parents table reads the parent words
-  pub parents-read : Reads (parentsOf b) (snapshots b) parentWord
-  parents-read = record { at = at; from = from }
-    where
-      from : (i p : ℕ) → lookup i (parentsOf b) ≡ some p → (k : Bkey) × (k ∈ snapshots b) × (k .offset ≡ i) × (parentWord k ≡ p)
-      from i p h = F .table-true i p .0 (lookup-mem i (parentsOf b) p h)
-
-      at : (k : Bkey) → k ∈ snapshots b → lookup (k .offset) (parentsOf b) ≡ some (parentWord k)
-      at k m =
-          let r = mem-lookup (k .offset) (parentWord k) (parentsOf b) (F .table-true (k .offset) (parentWord k) .1 (k, m, refl, refl)) in
-          let u = from (k .offset) (r .0) (r .1) in
-          r .1 ∙ ap some (sym (u .3) ∙ ap parentWord (snapshot-same (u .0) k (u .1) m (u .2)))
-
   -- every snapshot key and every tree key is judged
   pub all-snapshots : (n : ℕ) → n ≤ 40 → keep (holds 9 22 n) (b .keys) ≡ snapshots b
   unfolding keysOf
@@ -128,6 +115,43 @@ module _ (b : Book) (F : ForestBook b) where
   all-records =
       keep-same (holds 15 31 8) (λ k. eqb (k .btree) 15) (b .keys)
       (λ k m. formed-holds 15 31 8 8 k (omega arith) (λ e. F .records-formed k (mem-keep (λ k. eqb (k .btree) 15) (b .keys) k m e)))
+
+  -- in a book with the drawn mark the map that is drawn from the keys is true: each snapshot id with its parent word, and nothing else
+  pub drawn-true : b .header .drawn ≡ true → TrueParents b
+  unfolding parentsOf drawnFrom mapOf
+  drawn-true e id parent =
+      let fits : (k : Bkey) → k ∈ snapshots b → k .offset ≤ 4294967295 = λ k m. F .snapshots-formed k m .fits in
+      let same : parentsOf b ≡ made parentWord (snapshots b)
+      = ap (λ (d : Bool). cond d (drawnFrom (b .keys)) (b .parents)) e ∙ ap (λ (ks : List Bkey). made parentWord ks) (all-snapshots 8 (omega arith)) in (
+        (λ m.
+            let r = made-mem parentWord (snapshots b) fits (F .snapshots-distinct) (id, parent) (subst (λ (t : List (ℕ × ℕ)). (id, parent) ∈ t) same m) in
+            (r .0, r .1, ap (λ (x : ℕ × ℕ). x .0) (sym (r .2)), ap (λ (x : ℕ × ℕ). x .1) (sym (r .2)))),
+        (λ r.
+            subst (λ (t : List (ℕ × ℕ)). (id, parent) ∈ t) (sym same)
+            (lookup-mem id (made parentWord (snapshots b)) parent
+            (ap (λ (i : ℕ). lookup i (made parentWord (snapshots b))) (sym (r .2)) ∙ made-at parentWord (snapshots b) fits (F .snapshots-distinct) (r .0) (r .1) ∙ ap some (r .3)))),
+      )
+
+  -- so the parents of a forest book are true, with the mark and without
+  pub parents-true : TrueParents b
+  parents-true = go (b .header .drawn) refl
+    where
+      go : (d : Bool) → b .header .drawn ≡ d → TrueParents b
+      go true e = drawn-true e
+      go false e = F .table-true e
+
+  -- the parents read the parent words
+  pub parents-read : Reads (parentsOf b) (snapshots b) parentWord
+  parents-read = record { at = at; from = from }
+    where
+      from : (i p : ℕ) → lookup i (parentsOf b) ≡ some p → (k : Bkey) × (k ∈ snapshots b) × (k .offset ≡ i) × (parentWord k ≡ p)
+      from i p h = parents-true i p .0 (lookup-mem i (parentsOf b) p h)
+
+      at : (k : Bkey) → k ∈ snapshots b → lookup (k .offset) (parentsOf b) ≡ some (parentWord k)
+      at k m =
+          let r = mem-lookup (k .offset) (parentWord k) (parentsOf b) (parents-true (k .offset) (parentWord k) .1 (k, m, refl, refl)) in
+          let u = from (k .offset) (r .0) (r .1) in
+          r .1 ∙ ap some (sym (u .3) ∙ ap parentWord (snapshot-same (u .0) k (u .1) m (u .2)))
 
   pub trees-of-read : Reads (treeOfMap b) (snapshots b) treeWord
   unfolding treeOfMap mapOf

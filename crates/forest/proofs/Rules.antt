@@ -11,9 +11,10 @@ use Rattle.findings.specs.Findings.{Finding, finding, when, only, each}
 use Rattle.findings.proofs.Walk.{each-keep}
 use Rattle.pairs.specs.Pairs.{has}
 use Rattle.book.specs.Maps.{lookup}
-use Rattle.book.specs.Book.{Bkey, Book, parentsOf}
+use Rattle.book.specs.Book.{Bkey, Book}
+use Rattle.book.specs.KeyMaps.{parentsOf}
 use Rattle.parents.specs.Roots.{rootOf, above}
-use Rattle.snapshots.specs.Words.{parentWord, childWords, subvolumeWord, treeWord, depthWord, skipWords, rootWord, holds}
+use Rattle.book.specs.Words.{parentWord, childWords, subvolumeWord, treeWord, depthWord, skipWords, rootWord, holds}
 use Rattle.links.specs.SnapshotLinks.{treeMap, treeOfMap, isThe, isOther, masterFindings, treeFindings, namesRoot, wrongDepth, badChild, badSkip, rootFindings, backrefFindings, childFindings, skipFindings, linkFindings, snapshotLinks}
 use Rattle.forest.specs.Lists.{_∈_}
 use Rattle.forest.specs.Forest.{snapshots, ForestBook, Links, InChain, RootedRight, NamedBack, NamesChild, NamesChain, Sound, forestKinds, Absent}

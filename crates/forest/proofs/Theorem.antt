@@ -7,7 +7,7 @@ use native.Mathlib.Omega.{arith}
 use Rattle.forest.specs.Lists.{_∈_}
 use Rattle.book.specs.Book.{Bkey, Book}
 use Rattle.findings.specs.Findings.{Finding}
-use Rattle.snapshots.specs.Words.{treeWord, rootWord}
+use Rattle.book.specs.Words.{treeWord, rootWord}
 use Rattle.forest.specs.Forest.{snapshots, ForestBook, Links, Ancestor, InChain, ChainsMeet, RecordNames, Sound, Absent, Demand3}
 use Rattle.links.specs.SnapshotLinks.{snapshotLinks}
 use Rattle.forest.proofs.Reading.{snapshot-same, record-same}

@@ -1,15 +1,16 @@
 -- Demand 3 (document 01, "Snapshots"): what a forest book is, what it means that its snapshots are sound, and the claim on its findings.
 -- "The words of demand 3 are read from the keys", and not from the parents table.
 use Prim.Native.Nat.{ℕ, zero, suc, _≤_}
-use mathlib.Core.Bool.{true}
+use mathlib.Core.Bool.{true, false}
 use mathlib.Core.Logic.{_↔_, _⊎_}
 use mathlib.Core.List.{List, [], _∷_, map}
 use mathlib.Core.Path.{_≡_}
 use lib.ListN.{length}
 use lib.Dec.{eqb}
 use Rattle.findings.specs.Findings.{Finding, keep}
-use Rattle.book.specs.Book.{Bkey, Book, parentsOf}
-use Rattle.snapshots.specs.Words.{parentWord, childWords, treeWord, depthWord, skipWords, rootWord}
+use Rattle.book.specs.Book.{Bkey, Book}
+use Rattle.book.specs.KeyMaps.{parentsOf}
+use Rattle.book.specs.Words.{parentWord, childWords, treeWord, depthWord, skipWords, rootWord}
 use Rattle.forest.specs.Lists.{_∈_, Distinct}
 
 -- the keys of a btree, in book order
@@ -33,15 +34,20 @@ pub record WellFormed (keyType least : ℕ) (k : Bkey) : Type 0 where
   pub above-zero : 1 ≤ k .offset
   pub fits : k .offset ≤ 4294967295
 
--- a forest book: the trees mark, well-formed snapshot and tree keys with distinct offsets, and a true parents table
+-- "True parents table: exactly these snapshot ids with their parent words"
+abbrev pub TrueParents : Book → Type 0
+TrueParents b =
+    (id parent : ℕ) → ((id, parent) ∈ parentsOf b) ↔ ((s : Bkey) × (s ∈ snapshots b) × (s .offset ≡ id) × (parentWord s ≡ parent))
+
+-- a forest book: the trees mark, well-formed snapshot and tree keys with distinct offsets, and a true parents table; with the drawn mark
+-- "demand 3 and the forest book do without the premise on the table"
 pub record ForestBook (b : Book) : Type 0 where
   pub mark : b .header .trees ≡ true
   pub snapshots-formed : (s : Bkey) → s ∈ snapshots b → WellFormed 22 40 s
   pub records-formed : (t : Bkey) → t ∈ records b → WellFormed 31 8 t
   pub snapshots-distinct : Distinct (map (λ (k : Bkey). k .offset) (snapshots b))
   pub records-distinct : Distinct (map (λ (k : Bkey). k .offset) (records b))
-  pub table-true : (id parent : ℕ) →
-      ((id, parent) ∈ parentsOf b) ↔ ((s : Bkey) × (s ∈ snapshots b) × (s .offset ≡ id) × (parentWord s ≡ parent))
+  pub table-true : b .header .drawn ≡ false → TrueParents b
 
 -- LINKS
 

@@ -9,11 +9,11 @@ use Rattle.pairs.proofs.Order.{both-false}
 use Rattle.book.specs.Maps.{insertAll, collect, lookup}
 use Rattle.book.specs.Book.{Bkey, Book, is}
 use Rattle.walk.specs.Keys.{anyKey}
-use Rattle.maps.specs.Maps.{mapOf}
+use Rattle.book.specs.KeyMaps.{mapOf}
 use Rattle.subvolumes.specs.SubvolumeStates.{hasSubvolState, unavailable, subvolumeFindings, subvolumeStates}
 use Rattle.claims.specs.SnapshotClaims.{claims, claimed, claimFindings, counts, snapshotClaims}
 use Rattle.deletions.specs.SnapshotStates.{hasSnapState, snapshotStateFindings, snapshotStates}
-use Rattle.snapshots.specs.Words.{word, holds, subvolumeWord, masterWord, rootWord, idOf}
+use Rattle.book.specs.Words.{word, holds, subvolumeWord, masterWord, rootWord, idOf}
 use Rattle.snapshots.specs.SnapshotSubvolFlags.{flagIsWrong, flagFindings, snapshotSubvolFlags}
 use Rattle.children.specs.SubvolumeChildren.{hasFsParent, fsParents, wrongEntry, subvolumeChildren}
 use Rattle.links.specs.SnapshotLinks.{treeMap, linkFindings, snapshotLinks}

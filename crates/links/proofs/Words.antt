@@ -16,7 +16,8 @@ use Rattle.book.specs.declared.Header.{Header}
 use Rattle.book.specs.declared.MaybeU32.{MaybeU32}
 use Rattle.book.specs.declared.MaybeU32.the-variants.{Is, Absent}
 use Rattle.book.specs.Maps.{lookup}
-use Rattle.book.specs.Book.{Bkey, Book, parentsOf}
+use Rattle.book.specs.Book.{Bkey, Book}
+use Rattle.book.specs.KeyMaps.{parentsOf}
 use Rattle.book.specs.Walk.{maybeU32}
 use Rattle.book.proofs.Maps.{word-is, word-absent}
 use Rattle.parents.specs.Chains.{rootIs}
@@ -24,7 +25,7 @@ use Rattle.ancestors.specs.Lines.{Lined}
 use Rattle.parents.specs.Roots.{above}
 use Rattle.ancestors.specs.declared.Line.{Line}
 use Rattle.ancestors.proofs.Laws.{among}
-use Rattle.snapshots.specs.Words.{holds, subvolumeWord, treeWord, depthWord, skipWords, idOf}
+use Rattle.book.specs.Words.{holds, subvolumeWord, treeWord, depthWord, skipWords, idOf}
 use Rattle.links.specs.SnapshotLinks.{treeMap, treeOfMap, isThe, isOther, masterFindings, treeFindings, namesRoot, wrongDepth, badChild, badSkip, rootFindings, backrefFindings, childFindings, skipFindings, linkFindings, snapshotLinks}
 use Rattle.links.specs.Steps.{wordIn, rootIn, rootNamed, sameRoot}
 

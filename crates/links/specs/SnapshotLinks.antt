@@ -8,10 +8,10 @@ use lib.Dec.{eqb}
 use Rattle.findings.specs.Findings.{Finding, finding, when, only, each, keep}
 use Rattle.pairs.specs.Pairs.{has}
 use Rattle.book.specs.Maps.{lookup}
-use Rattle.book.specs.Book.{Bkey, Book, parentsOf}
+use Rattle.book.specs.Book.{Bkey, Book}
 use Rattle.parents.specs.Roots.{rootOf, above}
-use Rattle.maps.specs.Maps.{mapOf}
-use Rattle.snapshots.specs.Words.{holds, childWords, subvolumeWord, treeWord, depthWord, skipWords, masterWord, rootWord, idOf}
+use Rattle.book.specs.KeyMaps.{mapOf, parentsOf}
+use Rattle.book.specs.Words.{holds, childWords, subvolumeWord, treeWord, depthWord, skipWords, masterWord, rootWord, idOf}
 
 -- THE MAPS MADE FROM THE KEYS
 

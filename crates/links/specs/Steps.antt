@@ -14,9 +14,11 @@ use Rattle.book.specs.Walk.{Opened}
 use Rattle.walk.specs.Keys.{keyAt}
 use Rattle.parents.specs.declared.Root.{Root}
 use Rattle.parents.specs.declared.Root.the-variants.{At, NoRoot}
-use Rattle.maps.specs.Places.{placePair}
 use Rattle.maps.specs.Sorted.{AllPairs}
-use Rattle.snapshots.specs.Words.{holds, masterWord, rootWord, idOf}
+use Rattle.drawn.specs.Classes.{linkPair}
+use Rattle.parents.specs.declared.Source.{Source}
+use Rattle.parents.specs.declared.Source.the-variants.{Table, Pairs}
+use Rattle.book.specs.Words.{masterWord, rootWord}
 use Rattle.links.specs.SnapshotLinks.{isThe}
 
 -- a word or none, and a root with its links or none, by the enums
@@ -38,10 +40,6 @@ unfoldable pub sameRoot : Option ℕ → Option (ℕ × ℕ) → Bool
 sameRoot word none = false
 sameRoot word (some root) = isThe (root .0) word
 
--- the pair that a key gives: a tree record in map 0, a snapshot that names a tree in map 1
-unfoldable pub linkPair : ℕ → Bkey → List ℕ
-linkPair p k = cond (holds 15 31 8 k) (placePair 0 (idOf k) p ∷ []) (cond (holds 9 22 24 k) (placePair 1 (idOf k) p ∷ []) [])
-
 -- an id and the place of its tree record, as the pair that they are in the map of trees
 abbrev pub treeAt : List ℕ → ℕ × ℕ → ℕ × (ℕ × ℕ)
 treeAt s e = (e .0, (masterWord (keyAt s (e .1)), rootWord (keyAt s (e .1))))
@@ -52,3 +50,7 @@ pub record Ready (s : List ℕ) (h : Header) (at : Places) (w : List ℕ) (n : �
   pub few : n ≤ h .keys
   pub room : 2 * n ≤ length w
   pub pairs : AllPairs linkPair s (h .keys) (at .keys) (pairsOf w n)
+
+-- where the parents of such a book are found
+unfoldable pub sourceOf : Header → Places → ℕ → Source
+sourceOf h at n = cond (h .drawn) (Pairs n) (Table (at .parents) (h .parents))

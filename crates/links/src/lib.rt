@@ -8,13 +8,14 @@ ghost use lib.Dec.{eqb};
 ghost use Rattle.findings.specs.Findings.{sink, only, each, keep, Found, Added};
 ghost use Rattle.pairs.specs.Pairs.{pairsOf};
 ghost use Rattle.book.specs.Maps.{lookup};
-ghost use Rattle.book.specs.Book.{wordsFrom, bookOf, parentsOf};
+ghost use Rattle.book.specs.Book.{bookOf};
+ghost use Rattle.book.specs.KeyMaps.{parentsOf};
 ghost use Rattle.book.specs.Walk.{Opened, maybeU32};
-ghost use Rattle.walk.specs.Keys.{keyAt, AtKey, gather};
-ghost use Rattle.maps.specs.Places.{placePair};
+ghost use Rattle.walk.specs.Keys.{keyAt, AtKey};
 ghost use Rattle.maps.specs.Sorted.{lastAt};
+ghost use Rattle.parents.specs.Sources.{reachOf};
 ghost use Rattle.ancestors.specs.Lines.{Lined};
-ghost use Rattle.snapshots.specs.Words.{holds, subvolumeWord, treeWord, skipWords, idOf};
+ghost use Rattle.book.specs.Words.{holds, subvolumeWord, treeWord, skipWords, idOf};
 ghost use Rattle.links.specs.SnapshotLinks.{
   treeMap,
   treeOfMap,
@@ -32,7 +33,7 @@ ghost use Rattle.links.specs.SnapshotLinks.{
   linkFindings,
   snapshotLinks,
 };
-ghost use Rattle.links.specs.Steps.{wordIn, rootIn, rootNamed, sameRoot, linkPair, treeAt, Ready};
+ghost use Rattle.links.specs.Steps.{wordIn, rootIn, rootNamed, sameRoot, treeAt, sourceOf, Ready};
 use ancestors::Line;
 use book::Header;
 use book::KeyFront;
@@ -42,20 +43,12 @@ use findings::emit;
 use findings::emit_if;
 use pairs::MaybeU64;
 use parents::Root;
+use parents::Source;
 
 // How many findings there are with those of a key, and the line of the last snapshot.
 struct Shown {
     found: usize,
     line: Line,
-}
-
-// The id of the key at byte p: the low 32 bits of its offset.
-fn key_id(book: &[u8], p: usize, f: KeyFront) -> u32
-    requires { ⌜ AtKey (now book) p f ⌝ }
-    ensures { λ r. ⌜ r ≡ idOf (keyAt (now (book .entry)) p) ⌝ }
-{
-    let offset = walk::key_offset(book, p, f);
-    (offset % 0x1_0000_0000) as u32
 }
 
 // Whether a word is there and is x.
@@ -108,16 +101,35 @@ fn snapshot_of(book: &[u8], h: Header, at: Places, id: u32) -> MaybeU32
     found.word
 }
 
+// Where the parents are found, once the first n pairs of the work words are those of all keys.
+fn source_of(h: Header, at: Places, n: usize) -> Source
+    ensures { λ r. ⌜ r ≡ sourceOf h at n ⌝ }
+{
+    if h.drawn {
+        return Source::Pairs(n);
+    }
+    Source::Table(at.parents, h.parents as usize)
+}
+
 // Whether a child is there that does not have this snapshot as its parent.
-fn bad_child(book: &[u8], h: Header, at: Places, id: u32, child: u32) -> bool
-    requires { ⌜ Opened (now book) h at ⌝ }
+fn bad_child(
+    book: &[u8],
+    h: Header,
+    at: Places,
+    work: &[u64],
+    n: usize,
+    id: u32,
+    child: u32,
+) -> bool
+    requires { ⌜ Ready (now book) h at (now work) n ⌝ }
     ensures { λ r. ⌜ r ≡ badChild (parentsOf (bookOf (now (book .entry)))) id child ⌝ }
 {
     if child == 0 {
         return false;
     }
-    let count = h.parents as usize;
-    let found = parents::parent_of(book, at.parents, count, count, child);
+    let source = source_of(h, at, n);
+    let near = parents::reach(source);
+    let found = parents::parent_in(book, work, source, near, child);
     let parent = found.word;
     !is_the(parent, id)
 }
@@ -185,6 +197,8 @@ fn show_children(
     book: &[u8],
     h: Header,
     at: Places,
+    work: &[u64],
+    n: usize,
     p: usize,
     f: KeyFront,
     id: u32,
@@ -192,14 +206,14 @@ fn show_children(
     counts: &mut [u64],
     m: usize,
 ) -> usize
-    requires { ⌜ Opened (now book) h at × AtKey (now book) p f × (40 ≤ f .len) × (m < 2 ^ 62) ⌝ }
+    requires { ⌜ Ready (now book) h at (now work) n × AtKey (now book) p f × (40 ≤ f .len) × (m < 2 ^ 62) ⌝ }
     ensures added { λ r. ⌜ Added (sink (now (out .entry)) (now (counts .entry))) m (childFindings (keyAt (now (book .entry)) p) id (parentsOf (bookOf (now (book .entry))))) r (sink (now (out .exit)) (now (counts .exit))) ⌝ }
     ensures few { λ r. ⌜ r ≤ m + 2 ⌝ }
 {
     let left = walk::key_word(book, p, f, 8);
     let right = walk::key_word(book, p, f, 12);
-    let one = bad_child(book, h, at, id, left);
-    let other = bad_child(book, h, at, id, right);
+    let one = bad_child(book, h, at, work, n, id, left);
+    let other = bad_child(book, h, at, work, n, id, right);
     let found = emit_if(out, counts, m, one, 44, id as u64, left as u64);
     emit_if(out, counts, found, other, 44, id as u64, right as u64)
 }
@@ -224,50 +238,6 @@ fn show_skips(
     emit_if(out, counts, m, bad != 0, 45, id as u64, bad)
 }
 
-// Puts the pair of the key at byte p in a map behind the first n.
-fn put_place(book: &[u8], p: usize, f: KeyFront, which: u64, work: &mut [u64], n: usize)
-    requires { ⌜ AtKey (now book) p f × (which < 2) × (2 * n + 2 ≤ length (now work)) ⌝ }
-    ensures { λ _. ⌜ pairsOf (now (work .exit)) (n + 1) ≡ pairsOf (now (work .entry)) n ++ (placePair which (idOf (keyAt (now (book .entry)) p)) p ∷ []) ⌝ }
-{
-    let id = key_id(book, p, f);
-    pairs::put_pair(work, n, id as u64, which * 0x1_0000_0000 + p as u64);
-}
-
-// Puts the pair that the key at byte p gives behind the first n, and returns their number with it.
-fn put_link(book: &[u8], p: usize, f: KeyFront, work: &mut [u64], n: usize) -> usize
-    requires { ⌜ AtKey (now book) p f × (2 * n + 2 ≤ length (now work)) ⌝ }
-    ensures put { λ r. ⌜ pairsOf (now (work .exit)) r ≡ pairsOf (now (work .entry)) n ++ linkPair p (keyAt (now (book .entry)) p) ⌝ }
-    ensures few { λ r. ⌜ r ≤ n + 1 ⌝ }
-{
-    if ((f.btree == 15) & (f.key_type == 31)) & (8 <= f.len) {
-        put_place(book, p, f, 0, work, n);
-        return n + 1;
-    }
-    if ((f.btree == 9) & (f.key_type == 22)) & (24 <= f.len) {
-        put_place(book, p, f, 1, work, n);
-        return n + 1;
-    }
-    n
-}
-
-// Puts a pair for each tree record and each snapshot that names a tree, in key order, and returns their number.
-fn put_links(book: &[u8], h: Header, at: Places, work: &mut [u64]) -> usize
-    requires { ⌜ Opened (now book) h at × (2 * h .keys ≤ length (now work)) ⌝ }
-    ensures put { λ r. ⌜ pairsOf (now (work .exit)) r ≡ gather linkPair (now (book .entry)) (h .keys) (at .keys) ⌝ }
-    ensures few { λ r. ⌜ r ≤ h .keys ⌝ }
-{
-    let mut left = h.keys;
-    let mut p = at.keys;
-    let mut n: usize = 0;
-    while 0 < left {
-        let f = book::key_front(book, p);
-        n = put_link(book, p, f, work, n);
-        p = p + 28 + f.len;
-        left -= 1;
-    }
-    n
-}
-
 // The root that the tree record of an id names: the last record of the id, by the first n pairs.
 fn tree_root(book: &[u8], h: Header, at: Places, work: &[u64], n: usize, id: u32) -> MaybeU32
     requires { ⌜ Ready (now book) h at (now work) n ⌝ }
@@ -288,7 +258,9 @@ fn tree_of(book: &[u8], h: Header, at: Places, work: &[u64], n: usize, id: u32) 
     requires { ⌜ Ready (now book) h at (now work) n ⌝ }
     ensures { λ r. ⌜ r ≡ maybeU32 (lookup id (treeOfMap (bookOf (now (book .entry))))) ⌝ }
 {
-    match maps::find_place(work, n, 1, id as u64) {
+    let found = drawn::find_snapshot(work, n, n, 2, id);
+    let place = found.place;
+    match place {
         MaybeU64::Is(q) => {
             let p = q as usize;
             let f = book::key_front(book, p);
@@ -341,7 +313,7 @@ fn show_links(
     m: usize,
 ) -> usize
     requires { ⌜ Ready (now book) h at (now work) n × AtKey (now book) p f × (40 ≤ f .len) × (m < 2 ^ 61) ⌝ }
-    requires { ⌜ Lined (wordsFrom (now book) (h .parents) (at .parents)) (now ids) line × (line .id ≡ idOf (keyAt (now book) p)) ⌝ }
+    requires { ⌜ Lined (parentsOf (bookOf (now book))) (now ids) line × (line .id ≡ idOf (keyAt (now book) p)) ⌝ }
     ensures added { λ r. ⌜ Added (sink (now (out .entry)) (now (counts .entry))) m (linkFindings (bookOf (now (book .entry))) (keyAt (now (book .entry)) p)) r (sink (now (out .exit)) (now (counts .exit))) ⌝ }
     ensures few { λ r. ⌜ r ≤ m + 6 ⌝ }
 {
@@ -349,7 +321,7 @@ fn show_links(
     let root = line.root;
     let m = show_root(book, h, at, work, n, p, f, id, root, out, counts, m);
     let m = show_backref(book, h, at, p, f, id, out, counts, m);
-    let m = show_children(book, h, at, p, f, id, out, counts, m);
+    let m = show_children(book, h, at, work, n, p, f, id, out, counts, m);
     show_skips(book, p, f, id, ids, line.len, out, counts, m)
 }
 
@@ -369,14 +341,15 @@ fn show_snapshot(
     m: usize,
 ) -> Shown
     requires { ⌜ Ready (now book) h at (now work) n × AtKey (now book) p f × (m < 2 ^ 61) ⌝ }
-    requires { ⌜ Lined (wordsFrom (now book) (h .parents) (at .parents)) (now ids) line × (line .near ≤ h .parents) ⌝ }
+    requires { ⌜ Lined (parentsOf (bookOf (now book))) (now ids) line × (line .near ≤ reachOf (sourceOf h at n)) ⌝ }
     ensures added { λ r. ⌜ Added (sink (now (out .entry)) (now (counts .entry))) m (only (holds 9 22 40 (keyAt (now (book .entry)) p)) (linkFindings (bookOf (now (book .entry))) (keyAt (now (book .entry)) p))) (r .found) (sink (now (out .exit)) (now (counts .exit))) ⌝ }
     ensures few { λ r. ⌜ r .found ≤ m + 6 ⌝ }
-    ensures lined { λ r. ⌜ Lined (wordsFrom (now (book .entry)) (h .parents) (at .parents)) (now (ids .exit)) (r .line) × (r .line .near ≤ h .parents) ⌝ }
+    ensures lined { λ r. ⌜ Lined (parentsOf (bookOf (now (book .entry)))) (now (ids .exit)) (r .line) × (r .line .near ≤ reachOf (sourceOf h at n)) ⌝ }
 {
     if ((f.btree == 9) & (f.key_type == 22)) & (40 <= f.len) {
-        let id = key_id(book, p, f);
-        let next = ancestors::line_beside(book, at.parents, h.parents as usize, line, id, ids);
+        let id = drawn::key_id(book, p, f);
+        let source = source_of(h, at, n);
+        let next = ancestors::line_beside(book, work, source, line, id, ids);
         let found = show_links(book, h, at, work, n, p, f, next, ids, out, counts, m);
         return Shown { found, line: next };
     }
@@ -398,7 +371,8 @@ fn show_snapshots(
     ensures few { λ r. ⌜ r ≤ h .keys * 6 ⌝ }
 {
     let mut ids = [0u32; 1024];
-    let mut line = ancestors::line_of(book, at.parents, h.parents as usize, 0, 0, &mut ids);
+    let source = source_of(h, at, n);
+    let mut line = ancestors::line_of(book, work, source, 0, 0, &mut ids);
     let mut found: usize = 0;
     let mut left = h.keys;
     let mut p = at.keys;
@@ -469,7 +443,7 @@ fn show_tree(
     ensures added { λ r. ⌜ Added (sink (now (out .entry)) (now (counts .entry))) m (treeFindings (bookOf (now (book .entry))) (treeAt (now (book .entry)) (idOf (keyAt (now (book .entry)) p), p))) r (sink (now (out .exit)) (now (counts .exit))) ⌝ }
     ensures few { λ r. ⌜ r ≤ m + 2 ⌝ }
 {
-    let id = key_id(book, p, f);
+    let id = drawn::key_id(book, p, f);
     let subvolume = walk::key_word(book, p, f, 0);
     let root = walk::key_word(book, p, f, 4);
     let back = is_the(tree_of(book, h, at, work, n, root), id);
@@ -560,7 +534,7 @@ pub fn snapshot_links(
     if !h.trees {
         return 0;
     }
-    let n = put_links(book, h, at, work);
+    let n = drawn::put_links(book, h, at, work);
     sorting::sort_pairs(work, n);
     show_all(book, h, at, work, n, out, counts)
 }

@@ -24,9 +24,10 @@ use Rattle.book.specs.Walk.{KeysFit, frontOf}
 use Rattle.book.proofs.Laws.{key-end}
 use Rattle.walk.specs.Keys.{keyAt, AtKey, gather, anyKey}
 use Rattle.walk.proofs.Sets.{any-by}
-use Rattle.maps.specs.Maps.{mapOf}
+use Rattle.book.specs.KeyMaps.{mapOf}
 use Rattle.maps.specs.Places.{placePair, numberIn, whichIn, placeIn, isFor, lastPlace, lastPlaces}
 use Rattle.maps.specs.Sorted.{AllPairs, lastAt}
+use Rattle.maps.specs.LastKeys.{wordAt}
 use Rattle.maps.proofs.Maps.{orSome, lastFor, some-none, collect-lookup, collect-rises, rises-same, map-lookup, map-rises}
 use Rattle.maps.proofs.Pairs.{number-part, place-part, place-for, for-parts, parts-for, keep-append, keep-parts, kept-there, keep-sort, last-kept, last-holds}
 use Rattle.maps.proofs.Last.{placeOf, sorted-from, places-lookup, places-rise, number-at, place-at, last-which}
@@ -42,11 +43,6 @@ pub record Held (test : Bkey → Bool) (number : Bkey → ℕ) (s : List ℕ) (x
   pub numbered : number (keyAt s q) ≡ x
   pub head : q + 28 ≤ length s
   pub inside : keyEnd s q ≤ length s
-
--- what a map has, by the place of the key
-unfoldable pub wordAt : {A : Type 0} → (Bkey → A) → List ℕ → MaybeU64 → Option A
-wordAt word s Absent = none
-wordAt word s (Is q) = some (word (keyAt s q))
 
 module _ {A : Type 0} (word : Bkey → A) (s : List ℕ) where
   word-or : (m m′ : MaybeU64) → wordAt word s (orElse m m′) ≡ orSome (wordAt word s m) (wordAt word s m′)
@@ -75,7 +71,7 @@ each-mapped f h i (x ∷ xs) = ap (λ (l : List Finding). f (h x) ++ l) (each-ma
 
 -- the pairs of a map with the number x that the keys give, in their order
 module _ (which : ℕ) (test : Bkey → Bool) (number : Bkey → ℕ) (s : List ℕ) (x : ℕ) where
-  unfoldable own : ℕ → ℕ → List ℕ
+  unfoldable pub own : ℕ → ℕ → List ℕ
   own zero p = []
   own (suc n) p = cond (test (keyAt s p) && eqb (number (keyAt s p)) x) (placePair which x p ∷ own n (keyEnd s p)) (own n (keyEnd s p))
 
@@ -136,11 +132,11 @@ module _ (which : ℕ) (test : Bkey → Bool) (number : Bkey → ℕ) (s : List 
         by false t h later = later h
 
     -- the last of them is what the map has
-    last-own : (p : ℕ) (r : List ℕ) → p < 2 ^ 32 → lastPlace which x (placePair which x p ∷ r) ≡ orElse (lastPlace which x r) (Is p)
+    pub last-own : (p : ℕ) (r : List ℕ) → p < 2 ^ 32 → lastPlace which x (placePair which x p ∷ r) ≡ orElse (lastPlace which x r) (Is p)
     unfolding lastPlace
     last-own p r h = rw (place-for which x p w h, place-part which x p w h)
 
-    own-word : {A : Type 0} (word : Bkey → A) (n p : ℕ) → KeysFit s n p
+    pub own-word : {A : Type 0} (word : Bkey → A) (n p : ℕ) → KeysFit s n p
         → lastFor x (map (λ k. (number k, word k)) (keep test (keysFrom s n p))) ≡ wordAt word s (lastPlace which x (own n p))
     unfolding KeysFit own keep keysFrom lastFor wordAt
     own-word word zero p fit = unfold lastPlace in refl
@@ -160,7 +156,7 @@ module _ (which : ℕ) (test : Bkey → Bool) (number : Bkey → ℕ) (s : List 
 
 -- ---- the laws for a caller: xs are the pairs of all keys, sorted
 module _ {which : ℕ} {of : ℕ → Bkey → List ℕ} {test : Bkey → Bool} {number : Bkey → ℕ} {s : List ℕ} {n p : ℕ} {xs : List ℕ} (g : Gives which of test number) (a : AllPairs of s n p xs) where
-  sorted-keep : (x : ℕ) → keep (isFor which x) xs ≡ own which test number s x n p
+  pub sorted-keep : (x : ℕ) → keep (isFor which x) xs ≡ own which test number s x n p
   sorted-keep x =
       let kept = keep-own which test number s x (g .small) (a .small) of g n p (a .fit) in
       let up : Sorted (keep (isFor which x) (gather of s n p)) = rw kept (sorted-tail (placePair which x p) (own which test number s x n p) (own-sorted which test number s x (g .small) (a .small) n p p (le-refl p) (a .fit))) in

@@ -1,3 +1,3 @@
-pub mod Maps
 pub mod Places
 pub mod Sorted
+pub mod LastKeys

@@ -20,7 +20,7 @@ fn is_for(w: &[u64], i: usize, which: u64, number: u64) -> bool
 
 // The place in the last pair of a map with a number, of the first n pairs, which are sorted: r are below those that come after it.
 fn place_before(w: &[u64], n: usize, r: usize, which: u64, number: u64) -> MaybeU64
-    requires { ⌜ (2 * n ≤ length (now w)) × Sorted (pairsOf (now w) n) × (which < 2) × (r ≡ countBelow (pair number ((which + 1) * 2 ^ 32)) (pairsOf (now w) n)) ⌝ }
+    requires { ⌜ (2 * n ≤ length (now w)) × Sorted (pairsOf (now w) n) × (which < 4) × (r ≡ countBelow (pair number ((which + 1) * 2 ^ 32)) (pairsOf (now w) n)) ⌝ }
     ensures { λ r. ⌜ r ≡ lastPlace which number (pairsOf (now (w .entry)) n) ⌝ }
 {
     if r == 0 {
@@ -37,7 +37,7 @@ fn place_before(w: &[u64], n: usize, r: usize, which: u64, number: u64) -> Maybe
 
 // The place in the last pair of a map with a number, of the first n pairs, which are sorted.
 pub fn find_place(w: &[u64], n: usize, which: u64, number: u64) -> MaybeU64
-    requires { ⌜ (2 * n ≤ length (now w)) × Sorted (pairsOf (now w) n) × (which < 2) ⌝ }
+    requires { ⌜ (2 * n ≤ length (now w)) × Sorted (pairsOf (now w) n) × (which < 4) ⌝ }
     ensures { λ r. ⌜ r ≡ lastPlace which number (pairsOf (now (w .entry)) n) ⌝ }
 {
     let r = pairs::lower_bound(w, n, number, (which + 1) * 0x1_0000_0000);
@@ -46,10 +46,19 @@ pub fn find_place(w: &[u64], n: usize, which: u64, number: u64) -> MaybeU64
 
 // The same, looked for from pair `from` on, where the pairs of the number start no earlier.
 pub fn find_place_from(w: &[u64], n: usize, from: usize, which: u64, number: u64) -> MaybeU64
-    requires { ⌜ (2 * n ≤ length (now w)) × Sorted (pairsOf (now w) n) × (which < 2) × (from ≤ n) ⌝ }
+    requires { ⌜ (2 * n ≤ length (now w)) × Sorted (pairsOf (now w) n) × (which < 4) × (from ≤ n) ⌝ }
     ensures { λ r. ⌜ r ≡ lastPlace which number (pairsOf (now (w .entry)) n) ⌝ }
 {
     let r = pairs::lower_bound_from(w, n, from, number, (which + 1) * 0x1_0000_0000);
+    place_before(w, n, r, which, number)
+}
+
+// The same, looked for from pair `near` by steps that double.
+pub fn find_place_near(w: &[u64], n: usize, near: usize, which: u64, number: u64) -> MaybeU64
+    requires { ⌜ (2 * n ≤ length (now w)) × Sorted (pairsOf (now w) n) × (which < 4) × (near ≤ n) ⌝ }
+    ensures { λ r. ⌜ r ≡ lastPlace which number (pairsOf (now (w .entry)) n) ⌝ }
+{
+    let r = pairs::lower_bound_near(w, n, near, number, (which + 1) * 0x1_0000_0000);
     place_before(w, n, r, which, number)
 }
 
@@ -66,7 +75,7 @@ fn goes_on(w: &[u64], n: usize, i: usize, which: u64, number: u64) -> bool
 
 // Whether pair i of the first n is of a map, and the last of its number.
 pub fn is_last(w: &[u64], n: usize, i: usize, which: u64) -> bool
-    requires { ⌜ (2 * n ≤ length (now w)) × (i < n) × (which < 2) ⌝ }
+    requires { ⌜ (2 * n ≤ length (now w)) × (i < n) × (which < 4) ⌝ }
     ensures { λ r. ⌜ r ≡ lastAt which (drop i (pairsOf (now (w .entry)) n)) ⌝ }
 {
     let p = 2 * i;

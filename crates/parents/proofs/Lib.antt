@@ -4,3 +4,4 @@ mod Examples
 pub mod Laws
 pub mod Links
 mod Viewed
+pub mod Sources

@@ -9,9 +9,10 @@ use lib.Dec.{eqb}
 use borrow.Author.Tests.{eqb-true}
 use Rattle.findings.specs.Findings.{Finding, finding, each}
 use Rattle.pairs.specs.Pairs.{has}
-use Rattle.book.specs.Book.{Bkey, Book, parentsOf}
+use Rattle.book.specs.Book.{Bkey, Book}
+use Rattle.book.specs.KeyMaps.{parentsOf}
 use Rattle.parents.specs.Roots.{rootOf}
-use Rattle.snapshots.specs.Words.{treeWord}
+use Rattle.book.specs.Words.{treeWord}
 use Rattle.subvolumes.specs.SubvolumeStates.{subvolumeStates}
 use Rattle.claims.specs.SnapshotClaims.{snapshotClaims}
 use Rattle.deletions.specs.SnapshotStates.{snapshotStates}

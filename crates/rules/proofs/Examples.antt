@@ -1,6 +1,6 @@
--- Forest books of two snapshots and a tree record: one that is sound, and books that differ from it in one word.
+-- Forest books of two snapshots and a tree record: one that is sound, and books that differ from it in one word, each with the drawn mark and without.
 use Prim.Native.Nat.{ℕ}
-use mathlib.Core.Bool.{true}
+use mathlib.Core.Bool.{Bool, true, false, true≢false, cond}
 use mathlib.Core.Path.{_≡_, refl, ap, sym, subst}
 use mathlib.Core.List.{List, [], _∷_, map, List·Memᴰ·head, List·Memᴰ·tail, List·Memᴰ·not-nil, List·Memᴰ·eq-of-singleton}
 use lib.ListN.{getD}
@@ -9,7 +9,9 @@ use Rattle.bits.specs.Bits.{leAt}
 use Rattle.findings.specs.Findings.{Finding, finding, when, only, each, keep}
 use Rattle.pairs.specs.Pairs.{has, sort}
 use Rattle.book.specs.Maps.{lookup, insert, insertAll, collect}
-use Rattle.book.specs.Book.{Bkey, Book, is, parentsOf}
+use Rattle.book.specs.Book.{Bkey, Book, is}
+use Rattle.book.specs.KeyMaps.{mapOf, drawnFrom, parentsOf}
+use Rattle.book.specs.Words.{holds, parentWord, idOf}
 use Rattle.fields.specs.CheckKeyDevice.{elsewhere, checkKeyDevice}
 use Rattle.fields.specs.CheckKeyFields.{hasRow, sizeZero, snapshotZero, minimumValue, checkSnapshotPad, badId, foreignType, checkPosition, checkKeyFields}
 use Rattle.states.specs.StateDistance.{bitsApart, nearer, stateDistance, snapStates}
@@ -17,16 +19,14 @@ use Rattle.states.specs.CheckStateWords.{stateRequired, snapStateWord, snapshot
 use Rattle.subvolumes.specs.SubvolumeStates.{hasSubvolState, unavailable, subvolumeStates}
 use Rattle.claims.specs.SnapshotClaims.{claims, claimed, counts, claimFindings, snapshotClaims}
 use Rattle.deletions.specs.SnapshotStates.{hasSnapState, snapshotStates}
-use Rattle.maps.specs.Maps.{mapOf}
 use Rattle.parents.specs.Roots.{oneMore, rootVia, rootWithin, rootOf, followedVia, followed, above}
-use Rattle.snapshots.specs.Words.{holds, parentWord, idOf}
 use Rattle.snapshots.specs.SnapshotSubvolFlags.{flagged, flagIsWrong, flagFindings, snapshotSubvolFlags}
 use Rattle.children.specs.SubvolumeChildren.{hasFsParent, fsParents, subvolumeChildren}
 use Rattle.links.specs.SnapshotLinks.{treeMap, treeOfMap, isThe, isOther, masterFindings, treeFindings, namesRoot, wrongDepth, badChild, badSkip, rootFindings, backrefFindings, childFindings, skipFindings, linkFindings, snapshotLinks}
 use Rattle.buckets.specs.BucketGensAgainstAlloc.{isGens, bucketGensAgainstAlloc}
 use Rattle.buckets.specs.FreeSpace.{heldRuns, gaps, freeSpace}
 use Rattle.forest.specs.Lists.{_∈_}
-use Rattle.forest.specs.Forest.{keysOf, snapshots, WellFormed, ForestBook, Sound, Absent}
+use Rattle.forest.specs.Forest.{keysOf, snapshots, WellFormed, TrueParents, ForestBook, Sound, Absent}
 use Rattle.keys.specs.KeyFindings.{keyFindings}
 use Rattle.rules.specs.Rules.{findingsOf}
 use Rattle.rules.proofs.Demand3.{demand-3}
@@ -50,24 +50,25 @@ upper parent child = snapshot 1 parent child 1 0 1
 abbrev lower : ℕ → ℕ → ℕ → Bkey
 lower tree depth skip = snapshot 2 1 0 tree depth skip
 
--- a book of these, with tree record 1 of this root, and the parents as the snapshots have them
-unfoldable pub book : ℕ → ℕ → ℕ → ℕ → ℕ → ℕ → Book
-book parent child tree depth skip root = record {
+-- a book of these, with tree record 1 of this root, and the parents as the snapshots have them, by the keys alone or in the table
+unfoldable pub book : Bool → ℕ → ℕ → ℕ → ℕ → ℕ → ℕ → Book
+book drawn parent child tree depth skip root = record {
   header = record {
     layout = 1;
     trees = true;
+    drawn = drawn;
     spare = 0;
     version = 1062;
     «first_bucket» = 0;
     keys = 3;
     device = 0;
     buckets = 0;
-    parents = 2;
+    parents = cond drawn 0 2;
     subvolumes = 1;
     gens = 0;
     alloc = 0;
   };
-  parents = (1, parentWord (upper parent child)) ∷ (2, 1) ∷ [];
+  parents = cond drawn [] ((1, parentWord (upper parent child)) ∷ (2, 1) ∷ []);
   subvolumes = (5, 1) ∷ [];
   gens = [];
   alloc = [];
@@ -89,11 +90,26 @@ Named b e = (s : Bkey) × (s ∈ snapshots b) × (s .offset ≡ e .0) × (parent
 Listed : Book → Bkey → Type 0
 Listed b s = (s .offset, parentWord s) ∈ parentsOf b
 
--- each is a forest book, whatever the words
-pub forest-book : (parent child tree depth skip root : ℕ) → ForestBook (book parent child tree depth skip root)
+-- the table, where there is one, is true
+table : (drawn : Bool) (parent child tree depth skip root : ℕ) → drawn ≡ false → TrueParents (book drawn parent child tree depth skip root)
 unfolding book keysOf keep parentsOf leAt Named Listed
-forest-book parent child tree depth skip root =
-    let b = book parent child tree depth skip root in
+table true parent child tree depth skip root e = absurd (true≢false e)
+table false parent child tree depth skip root e =
+    let b = book false parent child tree depth skip root in
+    λ id p. (
+      both (Named b)
+          (upper parent child, List·Memᴰ·head refl, refl, refl)
+          (lower tree depth skip, List·Memᴰ·tail (List·Memᴰ·head refl), refl, refl)
+          (id, p),
+      (λ r.
+          subst (λ (e : ℕ × ℕ). e ∈ parentsOf b) (λ j. (r .2 j, r .3 j))
+          (both (Listed b) (List·Memᴰ·head refl) (List·Memᴰ·tail (List·Memᴰ·head refl)) (r .0) (r .1))),
+    )
+
+-- each is a forest book, whatever the words
+pub forest-book : (drawn : Bool) (parent child tree depth skip root : ℕ) → ForestBook (book drawn parent child tree depth skip root)
+unfolding book keysOf keep
+forest-book drawn parent child tree depth skip root =
     record {
       mark = refl;
       snapshots-formed = both (WellFormed 22 40)
@@ -104,15 +120,7 @@ forest-book parent child tree depth skip root =
           (record { typed = refl; long = omega arith; above-zero = omega arith; fits = omega arith });
       snapshots-distinct = ((λ m. absurd (omega (arith, List·Memᴰ·eq-of-singleton m))), ((λ m. List·Memᴰ·not-nil m), tt));
       records-distinct = ((λ m. List·Memᴰ·not-nil m), tt);
-      table-true = λ id p. (
-        both (Named b)
-            (upper parent child, List·Memᴰ·head refl, refl, refl)
-            (lower tree depth skip, List·Memᴰ·tail (List·Memᴰ·head refl), refl, refl)
-            (id, p),
-        (λ r.
-            subst (λ (e : ℕ × ℕ). e ∈ parentsOf b) (λ j. (r .2 j, r .3 j))
-            (both (Listed b) (List·Memᴰ·head refl) (List·Memᴰ·tail (List·Memᴰ·head refl)) (r .0) (r .1))),
-      );
+      table-true = table drawn parent child tree depth skip root;
     }
 
 -- THE FINDINGS
@@ -122,42 +130,43 @@ abbrev Row : Type 0
 Row = Book × List Finding
 
 -- the sound book; then another root, tree, depth, child and skip word; then snapshot 1 with itself, with 2 and with none as its parent
-rows : List Row
-rows =
-    (book 0 2 1 1 1 1, []) ∷
-    (book 0 2 1 1 1 3, finding 39 1 3 ∷ finding 41 1 1 ∷ finding 41 2 1 ∷ []) ∷
-    (book 0 2 2 1 1 1, finding 41 2 2 ∷ []) ∷
-    (book 0 2 1 0 1 1, finding 42 2 0 ∷ []) ∷
-    (book 0 3 1 1 1 1, finding 44 1 3 ∷ []) ∷
-    (book 0 2 1 1 3 1, finding 45 2 1 ∷ []) ∷
-    (book 1 2 1 1 1 1, finding 41 1 1 ∷ finding 41 2 1 ∷ []) ∷
-    (book 2 2 1 1 1 1, finding 41 1 1 ∷ finding 41 2 1 ∷ []) ∷
-    (book 3 2 1 1 1 1, finding 41 1 1 ∷ finding 41 2 1 ∷ []) ∷
+rows : Bool → List Row
+rows drawn =
+    (book drawn 0 2 1 1 1 1, []) ∷
+    (book drawn 0 2 1 1 1 3, finding 39 1 3 ∷ finding 41 1 1 ∷ finding 41 2 1 ∷ []) ∷
+    (book drawn 0 2 2 1 1 1, finding 41 2 2 ∷ []) ∷
+    (book drawn 0 2 1 0 1 1, finding 42 2 0 ∷ []) ∷
+    (book drawn 0 3 1 1 1 1, finding 44 1 3 ∷ []) ∷
+    (book drawn 0 2 1 1 3 1, finding 45 2 1 ∷ []) ∷
+    (book drawn 1 2 1 1 1 1, finding 41 1 1 ∷ finding 41 2 1 ∷ []) ∷
+    (book drawn 2 2 1 1 1 1, finding 41 1 1 ∷ finding 41 2 1 ∷ []) ∷
+    (book drawn 3 2 1 1 1 1, finding 41 1 1 ∷ finding 41 2 1 ∷ []) ∷
     []
 
-examples : map (λ (r : Row). findingsOf (r .0)) rows ≡ map (λ (r : Row). r .1) rows
-unfolding rows book leAt when only each keep has sort lookup insert insertAll collect is parentsOf elsewhere checkKeyDevice hasRow sizeZero snapshotZero minimumValue checkSnapshotPad badId foreignType checkPosition checkKeyFields bitsApart nearer stateDistance snapStates stateRequired snapStateWord snapshotState checkStateWords hasSubvolState unavailable subvolumeStates claims claimed counts claimFindings snapshotClaims hasSnapState snapshotStates mapOf oneMore rootVia rootWithin rootOf followedVia followed above holds idOf flagged flagIsWrong flagFindings snapshotSubvolFlags hasFsParent fsParents subvolumeChildren treeMap treeOfMap isThe isOther masterFindings treeFindings namesRoot wrongDepth badChild badSkip rootFindings backrefFindings childFindings skipFindings linkFindings snapshotLinks isGens bucketGensAgainstAlloc heldRuns gaps freeSpace keyFindings findingsOf
-examples = refl
+examples : (drawn : Bool) → map (λ (r : Row). findingsOf (r .0)) (rows drawn) ≡ map (λ (r : Row). r .1) (rows drawn)
+unfolding rows book leAt when only each keep has sort lookup insert insertAll collect is drawnFrom parentsOf elsewhere checkKeyDevice hasRow sizeZero snapshotZero minimumValue checkSnapshotPad badId foreignType checkPosition checkKeyFields bitsApart nearer stateDistance snapStates stateRequired snapStateWord snapshotState checkStateWords hasSubvolState unavailable subvolumeStates claims claimed counts claimFindings snapshotClaims hasSnapState snapshotStates mapOf oneMore rootVia rootWithin rootOf followedVia followed above holds idOf flagged flagIsWrong flagFindings snapshotSubvolFlags hasFsParent fsParents subvolumeChildren treeMap treeOfMap isThe isOther masterFindings treeFindings namesRoot wrongDepth badChild badSkip rootFindings backrefFindings childFindings skipFindings linkFindings snapshotLinks isGens bucketGensAgainstAlloc heldRuns gaps freeSpace keyFindings findingsOf
+examples true = refl
+examples false = refl
 
 -- the first has no findings, and so it is sound
-pub no-findings : findingsOf (book 0 2 1 1 1 1) ≡ []
+pub no-findings : (drawn : Bool) → findingsOf (book drawn 0 2 1 1 1 1) ≡ []
 unfolding rows
-no-findings = ap (λ (xs : List (List Finding)). getD xs 0 []) examples
+no-findings drawn = ap (λ (xs : List (List Finding)). getD xs 0 []) (examples drawn)
 
-absent : Absent (findingsOf (book 0 2 1 1 1 1))
-absent f m k = List·Memᴰ·not-nil (subst (λ (xs : List Finding). f ∈ xs) no-findings m)
+absent : (drawn : Bool) → Absent (findingsOf (book drawn 0 2 1 1 1 1))
+absent drawn f m k = List·Memᴰ·not-nil (subst (λ (xs : List Finding). f ∈ xs) (no-findings drawn) m)
 
-pub sound : Sound (book 0 2 1 1 1 1)
-sound = demand-3 (book 0 2 1 1 1 1) (forest-book 0 2 1 1 1 1) .exact .0 absent
+pub sound : (drawn : Bool) → Sound (book drawn 0 2 1 1 1 1)
+sound drawn = demand-3 (book drawn 0 2 1 1 1 1) (forest-book drawn 0 2 1 1 1 1) .exact .0 (absent drawn)
 
 -- the fourth, of another depth word, has one finding of a forest kind, and so it is not sound
-pub one-finding : findingsOf (book 0 2 1 0 1 1) ≡ finding 42 2 0 ∷ []
+pub one-finding : (drawn : Bool) → findingsOf (book drawn 0 2 1 0 1 1) ≡ finding 42 2 0 ∷ []
 unfolding rows
-one-finding = ap (λ (xs : List (List Finding)). getD xs 3 []) examples
+one-finding drawn = ap (λ (xs : List (List Finding)). getD xs 3 []) (examples drawn)
 
-present : Absent (findingsOf (book 0 2 1 0 1 1)) → ⊥
-present a =
-    a (finding 42 2 0) (subst (λ (xs : List Finding). finding 42 2 0 ∈ xs) (sym one-finding) (List·Memᴰ·head refl)) (List·Memᴰ·tail (List·Memᴰ·tail (List·Memᴰ·head refl)))
+present : (drawn : Bool) → Absent (findingsOf (book drawn 0 2 1 0 1 1)) → ⊥
+present drawn a =
+    a (finding 42 2 0) (subst (λ (xs : List Finding). finding 42 2 0 ∈ xs) (sym (one-finding drawn)) (List·Memᴰ·head refl)) (List·Memᴰ·tail (List·Memᴰ·tail (List·Memᴰ·head refl)))
 
-pub unsound : Sound (book 0 2 1 0 1 1) → ⊥
-unsound s = present (demand-3 (book 0 2 1 0 1 1) (forest-book 0 2 1 0 1 1) .exact .1 s)
+pub unsound : (drawn : Bool) → Sound (book drawn 0 2 1 0 1 1) → ⊥
+unsound drawn s = present drawn (demand-3 (book drawn 0 2 1 0 1 1) (forest-book drawn 0 2 1 0 1 1) .exact .1 s)

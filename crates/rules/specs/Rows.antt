@@ -1,6 +1,6 @@
 -- The rows of document 01 that are marked †, as one table; the theorem is in proofs/Rows.antt.
 use Prim.Native.Nat.{ℕ, zero, suc, _+_, _*_, _/_, _%_, _^_}
-use mathlib.Core.Bool.{true}
+use mathlib.Core.Bool.{true, false}
 use mathlib.Core.List.{List, [], _∷_, _++_, map}
 use mathlib.Core.Option.{Option, none, some}
 use lib.ListN.{replicate}
@@ -71,6 +71,7 @@ hole = record {
   header = record {
     layout = 1;
     trees = true;
+    drawn = false;
     spare = 0;
     version = 1063;
     «first_bucket» = 1;

@@ -23,6 +23,7 @@ abbrev pub startOf : Header → HeaderStart
 startOf h = record {
   layout = h .layout;
   trees = h .trees;
+  drawn = h .drawn;
   spare = h .spare;
   version = h .version;
   «first_bucket» = h .«first_bucket»;

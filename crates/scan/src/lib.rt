@@ -28,6 +28,7 @@ use book::Verdict;
 struct HeaderStart {
     layout: u8,
     trees: bool,
+    drawn: bool,
     spare: u16,
     version: u16,
     first_bucket: u16,
@@ -69,7 +70,10 @@ fn read_start(book: &[u8]) -> HeaderStart
     let t = c.take(book, 1);
     let trees = t.value == 1;
     let c = t.next;
-    let t = c.take(book, 11);
+    let t = c.take(book, 1);
+    let drawn = t.value == 1;
+    let c = t.next;
+    let t = c.take(book, 10);
     let spare = t.value as u16;
     let c = t.next;
     let t = c.take(book, 16);
@@ -83,6 +87,7 @@ fn read_start(book: &[u8]) -> HeaderStart
     HeaderStart {
         layout,
         trees,
+        drawn,
         spare,
         version,
         first_bucket,
@@ -129,6 +134,7 @@ fn read_header(book: &[u8]) -> Header
     Header {
         layout: start.layout,
         trees: start.trees,
+        drawn: start.drawn,
         spare: start.spare,
         version: start.version,
         first_bucket: start.first_bucket,
@@ -440,6 +446,9 @@ pub fn scan(book: &[u8]) -> Scanned
     let h = read_header(book);
     if (h.layout != 1) | (h.spare != 0) {
         return Scanned::Refused(3, 0);
+    }
+    if h.drawn & (h.parents != 0) {
+        return Scanned::Refused(12, 0);
     }
     let at = find_places(h);
     let v = parts_verdict(book, h, at);

@@ -9,7 +9,7 @@ use Rattle.findings.specs.Findings.{finding, when, only}
 use Rattle.book.specs.declared.KeyFront.{KeyFront}
 use Rattle.walk.specs.Keys.{keyAt, AtKey}
 use Rattle.walk.proofs.Gather.{at-long}
-use Rattle.snapshots.specs.Words.{holds}
+use Rattle.book.specs.Words.{holds}
 use Rattle.snapshots.specs.SnapshotSubvolFlags.{flagged, flagIsWrong, flagFindings}
 
 differ : (a b : Bool) → (a && b) || (not a && not b) ≡ cond a b (not b)

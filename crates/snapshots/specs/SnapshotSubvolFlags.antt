@@ -5,7 +5,7 @@ use mathlib.Core.List.{List}
 use lib.Dec.{eqb}
 use Rattle.findings.specs.Findings.{Finding, finding, when, only, each}
 use Rattle.book.specs.Book.{Bkey, Book}
-use Rattle.snapshots.specs.Words.{holds, flagsWord, subvolumeWord}
+use Rattle.book.specs.Words.{holds, flagsWord, subvolumeWord}
 
 -- the subvolume flag, bit 1 of the flags
 unfoldable pub flagged : Bkey → Bool

@@ -1,5 +1,6 @@
 //! Books with hundreds of snapshots: chains, bushes, rings and tails into rings, with tree records, in several orders.
 
+use super::drawn;
 use super::forest::distinct;
 use super::random::Random;
 use super::values::*;
@@ -46,6 +47,10 @@ pub fn book(r: &mut Random) -> Book {
         make_false(r, bush, &mut book.parents);
     }
     sort_tables(&mut book);
+    if r.one_in(3) {
+        drawn::shorten(r, &mut book.keys);
+        drawn::draw(&mut book);
+    }
     book
 }
 

@@ -15,7 +15,12 @@ struct Chain {
 
 /// One in eight has a long chain.
 pub fn book(r: &mut Random) -> Book {
-    if !r.one_in(8) {
+    some_long(r, 8)
+}
+
+/// One in n has a long chain.
+pub fn some_long(r: &mut Random, n: u64) -> Book {
+    if !r.one_in(n) {
         return short(r);
     }
     let links = 1023 + r.place(4);

@@ -1,9 +1,9 @@
-//! Damaged books: every refusal from 1 to 8.
+//! Damaged books: every refusal from 1 to 8, and 12.
 
 use super::random::Random;
 use super::values::*;
-use super::{chains, forest, mixed, runs};
-use crate::layout::{Book, HEADER_BYTES, KEY_HEAD_BYTES, LONGEST_BOOK, LONGEST_VALUE};
+use super::{chains, drawn, forest, mixed, runs};
+use crate::layout::{Book, DRAWN_MARK, HEADER_BYTES, KEY_HEAD_BYTES, LONGEST_BOOK, LONGEST_VALUE, TREES_MARK};
 
 /// The bytes of the five counts in the header: keys, parents, subvolumes, gens, alloc.
 const COUNTS: [usize; 5] = [6, 24, 26, 28, 30];
@@ -15,10 +15,11 @@ pub fn book(r: &mut Random) -> Vec<u8> {
     if r.one_in(16) {
         return noise(r);
     }
-    let mut book = match r.below(4) {
+    let mut book = match r.below(5) {
         0 => mixed::book(r),
         1 => chains::short(r),
         2 => forest::book(r),
+        3 => drawn::small(r),
         _ => runs::book(r),
     };
     if r.one_in(4) {
@@ -58,7 +59,7 @@ pub fn fill(book: &mut Book, mut left: usize) {
 fn noise(r: &mut Random) -> Vec<u8> {
     let mut bytes = Vec::new();
     if !r.one_in(3) {
-        bytes = Book { mark: r.one_in(2), buckets: r.below(4), ..Book::default() }.encode();
+        bytes = Book { mark: r.one_in(2), drawn: r.one_in(4), buckets: r.below(4), ..Book::default() }.encode();
         for count in COUNTS {
             bytes[count + 1] = r.pick(&[0, 0, 0, 0, 1, 2]);
         }
@@ -93,8 +94,8 @@ fn exchange<T: Copy>(r: &mut Random, table: &mut Vec<T>, two: [T; 2]) {
 }
 
 /// One damage to the bytes of a book; the book tells where its entries stood.
-fn damage(r: &mut Random, book: &Book, bytes: &mut Vec<u8>) {
-    match r.below(12) {
+pub fn damage(r: &mut Random, book: &Book, bytes: &mut Vec<u8>) {
+    match r.below(13) {
         0 | 1 => flip(r, bytes, 0..usize::MAX),
         2 => overwrite(r, bytes),
         3 => bytes.truncate(r.place(bytes.len() + 1)),
@@ -117,11 +118,15 @@ fn damage(r: &mut Random, book: &Book, bytes: &mut Vec<u8>) {
             let start = key_start(book, r.place(book.keys.len()));
             flip(r, bytes, start + 3..start + 4);
         }
-        _ => {
-            if let Some(first) = bytes.first_mut() {
-                *first &= !8;
-            }
-        }
+        11 => change_marks(bytes, |first| first ^ DRAWN_MARK),
+        _ => change_marks(bytes, |first| first & !TREES_MARK),
+    }
+}
+
+/// Changes the first byte, if it is there.
+fn change_marks(bytes: &mut [u8], change: fn(u8) -> u8) {
+    if let Some(first) = bytes.first_mut() {
+        *first = change(*first);
     }
 }
 
@@ -136,7 +141,7 @@ fn flip(r: &mut Random, bytes: &mut [u8], range: std::ops::Range<usize>) {
 fn overwrite(r: &mut Random, bytes: &mut [u8]) {
     if !bytes.is_empty() {
         let place = r.place(bytes.len());
-        bytes[place] = r.pick(&[0, 1, 0x10, 0x18, 0x80, 0xff, 15]);
+        bytes[place] = r.pick(&[0, 1, 0x10, 0x18, 0x1c, 0x80, 0xff, 15]);
     }
 }
 

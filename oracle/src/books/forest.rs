@@ -228,7 +228,7 @@ fn damaged_word(r: &mut Random, key: &Key) -> usize {
 fn set_word(r: &mut Random, book: &mut Book, place: usize, at: usize, new: u32) {
     let key = &mut book.keys[place];
     put(&mut key.value, at, &new.to_le_bytes());
-    if key.btree == SNAPSHOTS && at == 4 && !r.one_in(4) {
+    if key.btree == SNAPSHOTS && at == PARENT_WORD && !r.one_in(4) {
         let id = key.offset as u32;
         if let Some(entry) = book.parents.iter_mut().find(|e| e.0 == id) {
             entry.1 = new;

@@ -4,7 +4,7 @@
 use super::random::Random;
 use super::values::*;
 use super::world::World;
-use super::{damaged, mixed, runs};
+use super::{damaged, drawn, mixed, runs};
 use crate::layout::{Book, Key, HEADER_BYTES, KEY_HEAD_BYTES, LONGEST_BOOK, LONGEST_VALUE};
 
 /// Lengths of values at which some rule changes, and the longest.
@@ -32,6 +32,10 @@ pub fn book(r: &mut Random) -> Book {
         r.shuffle(&mut book.keys);
     }
     sort_tables(&mut book);
+    if r.one_in(3) {
+        drawn::shorten(r, &mut book.keys);
+        drawn::draw(&mut book);
+    }
     let left = cut(&mut book);
     if r.one_in(4) {
         damaged::fill(&mut book, left + r.place(2));

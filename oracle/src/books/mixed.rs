@@ -4,7 +4,7 @@ use super::fields::{self, FIELD_MAKERS, LINK_MAKERS};
 use super::random::Random;
 use super::values::*;
 use super::world::World;
-use super::{forest, runs};
+use super::{drawn, forest, runs};
 use crate::layout::{Book, Key};
 
 type Group = fn(&mut World, &mut Vec<Key>);
@@ -35,6 +35,9 @@ pub fn book(r: &mut Random) -> Book {
         r.shuffle(&mut book.keys);
     }
     sort_tables(&mut book);
+    if r.one_in(16) {
+        drawn::draw(&mut book);
+    }
     book
 }
 
@@ -83,7 +86,7 @@ pub fn tables(w: &mut World, book: &mut Book) {
         let of_btree = book.keys.iter().filter(move |k| k.btree == btree);
         of_btree.filter_map(move |k| Some((k.offset as u32, word(&k.value, at)?))).collect::<Vec<_>>()
     };
-    (book.parents, book.subvolumes) = (words(SNAPSHOTS, 4), words(SUBVOLUMES, 4));
+    (book.parents, book.subvolumes) = (words(SNAPSHOTS, PARENT_WORD), words(SUBVOLUMES, 4));
     perturb(w, &mut book.parents);
     perturb(w, &mut book.subvolumes);
 }

@@ -3,8 +3,8 @@
 use super::random::Random;
 use crate::layout::{Book, KEY_HEAD_BYTES};
 
-/// Headers with each of the five counts 0 or 1, the mark set or clear.
-const HEADERS: u64 = 64;
+/// Headers with each of the five counts 0 or 1, each of the two marks set or clear.
+const HEADERS: u64 = 128;
 
 /// Even indexes give the byte strings in order of length. Of the odd ones every fourth gives the strings in this order after header 0, so that
 /// 526,338 indexes hold all of up to 2 bytes; the next gives them after each header in turn; the others give up to 40 bytes drawn from the seed.
@@ -19,7 +19,7 @@ pub fn book(r: &mut Random, index: u64) -> Vec<u8> {
     match sort {
         0 => bytes.extend(string(turn)),
         1 => bytes.extend(string(turn / HEADERS)),
-        _ => bytes.extend(drawn(r, number)),
+        _ => bytes.extend(any_bytes(r, number)),
     }
     bytes
 }
@@ -35,9 +35,10 @@ fn string(number: u64) -> Vec<u8> {
     left.to_be_bytes()[8 - length..].to_vec()
 }
 
-/// The header of a number below 64: bit 0 is the mark, bits 1 to 5 are the counts of parents, subvolumes, gens, alloc and keys.
+/// The header of a number below 128: bit 0 is the trees mark, bits 1 to 5 are the counts of parents, subvolumes, gens, alloc and keys, bit 6 is the
+/// drawn mark.
 fn header(number: u64) -> Vec<u8> {
-    let mut bytes = Book { mark: number & 1 == 1, version: 1063, buckets: 2, ..Book::default() }.encode();
+    let mut bytes = Book { mark: number & 1 == 1, drawn: number >> 6 == 1, version: 1063, buckets: 2, ..Book::default() }.encode();
     for (bit, at) in [(1, 25), (2, 27), (3, 29), (4, 31), (5, 7)] {
         bytes[at] = (number >> bit & 1) as u8;
     }
@@ -45,7 +46,7 @@ fn header(number: u64) -> Vec<u8> {
 }
 
 /// Up to 40 bytes: any, mostly zeros, or about what the header asks for.
-fn drawn(r: &mut Random, number: u64) -> Vec<u8> {
+fn any_bytes(r: &mut Random, number: u64) -> Vec<u8> {
     let length = match r.below(4) {
         0 => r.place(41),
         1 => (asked_bytes(number) + r.place(3)).saturating_sub(1).min(40),

@@ -3,16 +3,18 @@
 use borrow.Author.Needs.{needs}
 use native.Mathlib.Omega.{arith}
 use Prim.Native.Nat.{_-_, _≤_}
-use Rattle.book.specs.Book.{wordsFrom}
+use Rattle.book.specs.Book.{bookOf}
+use Rattle.book.specs.KeyMaps.{parentsOf}
+use Rattle.parents.specs.Sources.{reachOf}
 use Rattle.ancestors.proofs.Walked.{Walked, walked-start, walked-more, walked-root, walked-absent, walked-full}
 use Rattle.ancestors.proofs.ancestors_of.Statement.{statement}
 use Rattle.ancestors.proofs.ancestors_of.Tie as tie
 
 abbrev Inv-loop : tie.InvT-loop
-Inv-loop book start count id ids₀ len₀ at₀ near₀ ids len at near = (near ≤ count) × Walked (wordsFrom book count start) id ids len at
+Inv-loop book work source id ids₀ len₀ at₀ near₀ ids len at near = (near ≤ reachOf source) × Walked (parentsOf (bookOf book)) id ids len at
 
 abbrev μ-loop : tie.MeasureT-loop
-μ-loop book start count id ids₀ len₀ at₀ near₀ ids len at near = 1024 - len
+μ-loop book work source id ids₀ len₀ at₀ near₀ ids len at near = 1024 - len
 
 pub ancestors-of-spec : {M : Type 1} → statement M
 ancestors-of-spec =
@@ -20,7 +22,8 @@ ancestors-of-spec =
     (tie.spec
     Inv-loop
     μ-loop
-    (λ c. (omega arith, walked-start _ _))
+    (λ c κs. search needs)
+    (λ c. (omega (arith, c .reach .ensures), walked-start _ _))
     (λ c κs. search needs)
     (λ c. search needs)
     (λ c. search needs)

@@ -13,7 +13,7 @@ used-in-requires : tie.Need-used-in-requires
 used-in-requires c κs =
     let p = c .before .before .before .before .before .before .pre in
     let o = parts (p .0) in
-    (o .small, o .alloc-rise .inside, omega (arith, c .before .struct-known .given .1 .1 .1 .1 .1 .1 .1 .1 .1 .1 .1 .0), p .1, range-few (p .0) (p .2) (c .alloc-range .ensures))
+    (o .small, o .alloc-rise .inside, omega (arith, c .before .struct-known .given .1 .1 .1 .1 .1 .1 .1 .1 .1 .1 .1 .1 .0), p .1, range-few (p .0) (p .2) (c .alloc-range .ensures))
 
 returns : tie.Need-returns
 returns c =

@@ -9,7 +9,7 @@ use Rattle.book.specs.Book.{bookOf}
 use Rattle.walk.specs.Keys.{keyAt}
 use Rattle.maps.specs.Places.{lastPlaces}
 use Rattle.maps.proofs.Last.{each-last, each-ended}
-use Rattle.snapshots.specs.Words.{word}
+use Rattle.book.specs.Words.{word}
 use Rattle.children.specs.SubvolumeChildren.{missingEntry}
 use Rattle.children.proofs.Children.{missing-all}
 use borrow.Author.Needs.{needs}

@@ -6,7 +6,7 @@ use lib.ListN.{getD}
 use Rattle.findings.proofs.Laws.{added-as, added-only, added-not}
 use Rattle.book.specs.Book.{bookOf}
 use Rattle.maps.proofs.Places.{Held}
-use Rattle.snapshots.specs.Words.{holds, idOf}
+use Rattle.book.specs.Words.{holds, idOf}
 use Rattle.links.specs.SnapshotLinks.{treeFindings}
 use Rattle.links.specs.Steps.{treeAt}
 use Rattle.links.proofs.Trees.{ready-small, held-head, held-key, last-tree}

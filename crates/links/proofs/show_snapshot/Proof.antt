@@ -1,10 +1,11 @@
 -- By the test.
-use mathlib.Core.Path.{refl, _∙_}
+use mathlib.Core.Path.{refl, ap, _∙_}
 use native.Mathlib.Omega.{arith}
 use Rattle.findings.proofs.Laws.{added-only, added-not}
-use Rattle.book.proofs.Walk.{parts}
 use Rattle.walk.proofs.Gather.{at-least}
-use Rattle.links.proofs.Trees.{at-holds}
+use Rattle.drawn.proofs.Scan.{at-holds}
+use Rattle.parents.specs.Sources.{reachOf}
+use Rattle.links.proofs.Trees.{ready-source}
 use borrow.Author.Needs.{needs}
 use Rattle.links.proofs.show_snapshot.Statement.{statement}
 use Rattle.links.proofs.show_snapshot.Tie as tie
@@ -21,7 +22,7 @@ returns c =
     let t = c .before .before .before .before .before .before .before .before .before .before .before .before .before .before .before .before .before .before .before .before in
     let next = c .before .before .before .before .before .before .before .before .line-beside .ensures in (
       added-only refl (at-holds (t .pre .0 .1) 9 22 40 (c .before .before .before .before .before .before .before .before .before .before .before .before .if1 .taken)) (c .before .before .before .before .show-links .ensures .0),
-      (c .before .before .before .before .show-links .ensures .1, (next .0, next .1 .1)),
+      (c .before .before .before .before .show-links .ensures .1, (next .0, omega (arith, next .1 .1, ap reachOf (c .before .before .before .before .before .before .before .before .before .before .source-of .ensures)))),
     )
 
 returns-2 : tie.Need-returns-2
@@ -34,8 +35,8 @@ show-snapshot-spec =
     tie.close
     (tie.spec
     (λ c κs. search needs)
-    (λ c. search needs)
-    (λ c κs. let t = c .before .before .before .before .before .before .before .before .before .before .before in (parts (t .pre .0 .0 .opened) .parents-rise, t .pre .1 .0, t .pre .1 .1))
+    (λ c κs. search needs)
+    (λ c κs. let t = c .before .before .before .before .before .before .before .before .before .before .before in (ready-source (t .pre .0 .0) (c .before .source-of .ensures), t .pre .1 .0, omega (arith, t .pre .1 .1, ap reachOf (c .before .source-of .ensures))))
     show-links-requires
     (λ c. search needs)
     (λ c. search needs)

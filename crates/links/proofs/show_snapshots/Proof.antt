@@ -4,13 +4,17 @@ use mathlib.Core.Path.{sym, ap}
 use native.Mathlib.Omega.{arith}
 use Rattle.findings.specs.Findings.{only, each, sink}
 use Rattle.findings.proofs.Walk.{Begun, first, turn, last, each-none, begun-length, begun-counts}
-use Rattle.book.specs.Book.{wordsFrom, keysFrom, bookOf}
+use Rattle.book.specs.Book.{keysFrom, bookOf}
+use Rattle.book.specs.KeyMaps.{parentsOf}
+use Rattle.parents.specs.Sources.{reachOf}
+use Rattle.links.specs.Steps.{sourceOf}
+use Rattle.links.proofs.Trees.{ready-source}
 use Rattle.book.specs.Walk.{KeysFit}
 use Rattle.book.proofs.Walk.{parts, step, no-keys}
 use Rattle.ancestors.specs.Lines.{Lined}
 use Rattle.walk.specs.Keys.{AtKey}
 use Rattle.walk.proofs.Gather.{at-key, at-end, key-next}
-use Rattle.snapshots.specs.Words.{holds}
+use Rattle.book.specs.Words.{holds}
 use Rattle.links.specs.SnapshotLinks.{linkFindings}
 use Rattle.findings.proofs.Laws.{found-as}
 use borrow.Author.Needs.{needs}
@@ -22,7 +26,7 @@ Inv-loop book h at work n out₀ counts₀ ids₀ line₀ found₀ left₀ p₀ 
     KeysFit book left p × (found + left * 6 ≤ left₀ * 6)
     × Begun (each (λ _ k. only (holds 9 22 40 k) (linkFindings (bookOf book) k)) 0 (keysFrom book left₀ p₀)) (sink out₀ counts₀)
     (each (λ _ k. only (holds 9 22 40 k) (linkFindings (bookOf book) k)) 0 (keysFrom book left p)) found (sink out counts)
-    × Lined (wordsFrom book (h .parents) (at .parents)) ids line × (line .near ≤ h .parents)
+    × Lined (parentsOf (bookOf book)) ids line × (line .near ≤ reachOf (sourceOf h at n))
 
 abbrev μ-loop : tie.MeasureT-loop
 μ-loop book h at work n out₀ counts₀ ids₀ line₀ found₀ left₀ p₀ out counts ids line found left p = left
@@ -67,9 +71,9 @@ show-snapshots-spec =
     (tie.spec
     Inv-loop
     μ-loop
-    (λ c. search needs)
-    (λ c κs. (parts (c .before .before .before .before .before .before .pre .opened) .parents-rise, omega arith))
-    (λ c. (parts (c .before .before .before .before .before .before .before .pre .opened) .keys-fit, omega arith, first, c .line-of .ensures .0, c .line-of .ensures .1 .1))
+    (λ c κs. search needs)
+    (λ c κs. (ready-source (c .before .before .before .before .before .before .pre) (c .before .source-of .ensures), omega arith))
+    (λ c. (parts (c .before .before .before .before .before .before .before .pre .opened) .keys-fit, omega arith, first, c .line-of .ensures .0, omega (arith, c .line-of .ensures .1 .1, ap reachOf (c .before .before .source-of .ensures))))
     (λ c κs. omega (arith, parts (c .before .before .before .before .before .before .before .before .before .pre .opened) .small, step _ _ _ (c .loop-test .taken) (c .before .loop .inv .0) .head))
     show-snapshot-requires
     (λ c. let k = key (c .before .before .before .before .before .before .before .before .before) in omega (arith, at-end k, k .inside, k .small))

@@ -2,16 +2,18 @@
 use borrow.Author.Needs.{needs}
 use native.Mathlib.Omega.{arith}
 use Prim.Native.Nat.{_-_, _≤_}
-use Rattle.book.specs.Book.{wordsFrom}
+use Rattle.book.specs.Book.{bookOf}
+use Rattle.book.specs.KeyMaps.{parentsOf}
+use Rattle.parents.specs.Sources.{reachOf}
 use Rattle.parents.proofs.Climb.{Climbed, climbed-start, climbed-more, climbed-root, climbed-absent, climbed-full}
 use Rattle.parents.proofs.root_of.Statement.{statement}
 use Rattle.parents.proofs.root_of.Tie as tie
 
 abbrev Inv-loop : tie.InvT-loop
-Inv-loop book start count id at₀ near₀ links₀ at near links = (near ≤ count) × Climbed (wordsFrom book count start) id at links
+Inv-loop book work source id at₀ near₀ links₀ at near links = (near ≤ reachOf source) × Climbed (parentsOf (bookOf book)) id at links
 
 abbrev μ-loop : tie.MeasureT-loop
-μ-loop book start count id at₀ near₀ links₀ at near links = 1024 - links
+μ-loop book work source id at₀ near₀ links₀ at near links = 1024 - links
 
 pub root-of-spec : {M : Type 1} → statement M
 root-of-spec =
@@ -19,7 +21,8 @@ root-of-spec =
     (tie.spec
     Inv-loop
     μ-loop
-    (λ c. (omega arith, climbed-start _ _))
+    (λ c κs. search needs)
+    (λ c. (omega (arith, c .reach .ensures), climbed-start _ _))
     (λ c κs. search needs)
     (λ c. search needs)
     (λ c. search needs)
