@@ -74,6 +74,7 @@ impl Mode {
     /// How many books of this mode a run of so many over all modes has: a long book takes as long as hundreds of others.
     pub fn share(self, books: u64) -> u64 {
         match self {
+            Mode::DrawnChains => FEWEST.max(books / 10),
             Mode::Bushes => FEWEST.max(books / 100),
             Mode::Many => FEWEST.max(books / 200),
             _ => books,

@@ -1,5 +1,6 @@
 mod Buckets
 pub mod Demand3
 pub mod Examples
+mod DrawnRows
 pub mod Rows
 pub mod RuleKinds

@@ -1,7 +1,7 @@
 -- The rows of document 01 that are marked †.
-use Prim.Native.Nat.{ℕ, zero, suc, _+_, _≤_, _<_}
-use mathlib.Core.Path.{_≡_, refl, ap}
-use mathlib.Core.List.{[], _∷_, map}
+use Prim.Native.Nat.{ℕ, zero, suc, _+_, _^_, _≤_, _<_}
+use mathlib.Core.Path.{_≡_, refl, sym, ap, ap₂, _∙_}
+use mathlib.Core.List.{List, [], _∷_, _++_, map}
 use mathlib.Core.Option.{none, some}
 use native.Mathlib.Omega.{arith}
 use borrow.Author.Tests.{eq-eqb, ne-eqb}
@@ -16,7 +16,8 @@ use Rattle.states.specs.CheckStateWords.{stateRequired, subvolStateUnset, subvo
 use Rattle.parents.specs.Roots.{oneMore, rootVia, rootWithin, rootOf}
 use Rattle.parents.proofs.Links.{link, link-to, root-more, root-full, root-here}
 use Rattle.buckets.specs.FreeSpace.{noRun, isFree, allocRange, usedBuckets, firstOr, setFindings, runFindings, heldRuns, gaps, gapFindings, freeSpace}
-use Rattle.rules.specs.Rows.{Row, kinds, numbers, subvolume, stateKinds, allocV4Kinds, onePointer, replicas, line, lineRoot, hole, flat, rows}
+use Rattle.rules.specs.Rows.{Row, kinds, numbers, word, subvolume, stateKinds, allocV4Kinds, onePointer, replicas, line, lineRoot, hole, drawnRoot, ownRoot, flat, marked, drawnMarked, rows}
+use Rattle.rules.proofs.DrawnRows.{drawn-line, drawn-one}
 
 -- CHAINS OF LINKS
 
@@ -50,7 +51,41 @@ one-link-more : lineRoot 1026 ≡ []
 unfolding lineRoot numbers rootOf
 one-link-more = ap numbers (line-none 1026 1025 1024 (omega arith) (omega arith))
 
+-- the same by drawn parents
+drawn-root : (n : ℕ) → n < 2 ^ 32 → drawnRoot n ≡ lineRoot n
+unfolding drawnRoot lineRoot
+drawn-root n l = ap (λ (t : List (ℕ × ℕ)). numbers (rootOf t n)) (drawn-line n l)
+
+drawn-most : drawnRoot 1025 ≡ 1 ∷ 1024 ∷ []
+drawn-most = drawn-root 1025 (omega arith) ∙ most-links
+
+drawn-more : drawnRoot 1026 ≡ []
+drawn-more = drawn-root 1026 (omega arith) ∙ one-link-more
+
+own-none : numbers (rootOf ((7, 7) ∷ []) 7) ≡ []
+unfolding lookup oneMore rootVia rootWithin rootOf numbers
+own-none = refl
+
+drawn-own : ownRoot ≡ []
+unfolding ownRoot
+drawn-own = ap (λ (t : List (ℕ × ℕ)). numbers (rootOf t 7)) (drawn-one 7 7 (omega arith) (omega arith)) ∙ own-none
+
+-- THE TABLE
+
+-- what is read of two lists of rows
+map-both : (f : Row → List ℕ) (a b : List Row) → map f (a ++ b) ≡ map f a ++ map f b
+map-both f [] b = refl
+map-both f (r ∷ a) b = ap (λ (l : List (List ℕ)). f r ∷ l) (map-both f a b)
+
+marked-hold : map (λ (r : Row). r .given) marked ≡ map (λ (r : Row). r .said) marked
+unfolding marked leAt when only each bytesOf pair insert sort lookup is hasRow sizeZero snapshotZero minimumValue accountingPositionBytes accountingKind replicasEnd accountingFields someNonzero someNotRising replicasEntryRefused countersBad checkAccountingKey backpointersStart allocV4Bytes checkAllocV4Value accountingJunk foreignType checkPosition checkKeyFields bitsApart nearer stateDistance subvolStates stateRequired subvolStateUnset subvolumeWord subvolumeState checkStateWords oneMore rootVia rootWithin rootOf noRun isFree allocRange usedBuckets firstOr setFindings runFindings heldRuns gaps gapFindings freeSpace kinds numbers word subvolume stateKinds allocV4Kinds onePointer replicas hole flat
+marked-hold = rw (most-links, one-link-more)
+
+drawn-hold : map (λ (r : Row). r .given) drawnMarked ≡ map (λ (r : Row). r .said) drawnMarked
+unfolding drawnMarked
+drawn-hold = rw (drawn-most, drawn-more, drawn-own)
+
 -- THE THEOREM: every row gives what is said
 pub rows-hold : map (λ (r : Row). r .given) rows ≡ map (λ (r : Row). r .said) rows
-unfolding rows leAt when only each bytesOf pair insert sort lookup is hasRow sizeZero snapshotZero minimumValue accountingPositionBytes accountingKind replicasEnd accountingFields someNonzero someNotRising replicasEntryRefused countersBad checkAccountingKey backpointersStart allocV4Bytes checkAllocV4Value accountingJunk foreignType checkPosition checkKeyFields bitsApart nearer stateDistance subvolStates stateRequired subvolStateUnset subvolumeWord subvolumeState checkStateWords oneMore rootVia rootWithin rootOf noRun isFree allocRange usedBuckets firstOr setFindings runFindings heldRuns gaps gapFindings freeSpace kinds numbers subvolume stateKinds allocV4Kinds onePointer replicas hole flat
-rows-hold = rw (most-links, one-link-more)
+unfolding rows
+rows-hold = map-both (λ (r : Row). r .given) marked drawnMarked ∙ ap₂ _++_ marked-hold drawn-hold ∙ sym (map-both (λ (r : Row). r .said) marked drawnMarked)

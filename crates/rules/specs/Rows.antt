@@ -1,11 +1,12 @@
--- The rows of document 01 that are marked †, as one table; the theorem is in proofs/Rows.antt.
+-- The rows of document 01 that are marked †, as one table, those on parents also for drawn ones; the theorem is in proofs/Rows.antt.
 use Prim.Native.Nat.{ℕ, zero, suc, _+_, _*_, _/_, _%_, _^_}
-use mathlib.Core.Bool.{true, false}
+use mathlib.Core.Bool.{Bool, true, false}
 use mathlib.Core.List.{List, [], _∷_, _++_, map}
 use mathlib.Core.Option.{Option, none, some}
 use lib.ListN.{replicate}
 use Rattle.findings.specs.Findings.{Finding}
 use Rattle.book.specs.Book.{Bkey, Book}
+use Rattle.book.specs.KeyMaps.{parentsOf}
 use Rattle.fields.specs.CheckKeyFields.{allocV4Bytes, checkKeyFields}
 use Rattle.states.specs.StateDistance.{stateDistance, subvolStates}
 use Rattle.states.specs.CheckStateWords.{checkStateWords}
@@ -36,9 +37,13 @@ zeros n = replicate n 0
 abbrev key : ℕ → ℕ → ℕ → ℕ → List ℕ → Bkey
 key btree keyType inode offset value = record { btree = btree; keyType = keyType; size = 0; inode = inode; offset = offset; snapshot = 0; value = value }
 
+-- a 32-bit word in bytes, little-endian
+unfoldable pub word : ℕ → List ℕ
+word x = x % 256 ∷ x / 2 ^ 8 % 256 ∷ x / 2 ^ 16 % 256 ∷ x / 2 ^ 24 ∷ []
+
 -- a subvolume with this state word, at 40
 unfoldable pub subvolume : ℕ → Bkey
-subvolume word = key 8 21 0 1 (zeros 40 ++ (word % 256 ∷ word / 2 ^ 8 % 256 ∷ word / 2 ^ 16 % 256 ∷ word / 2 ^ 24 ∷ []))
+subvolume state = key 8 21 0 1 (zeros 40 ++ word state)
 
 -- the kinds that it gives in a book of this version
 unfoldable pub stateKinds : ℕ → ℕ → List ℕ
@@ -65,17 +70,17 @@ line last (suc n) = (suc last, last) ∷ line (suc last) n
 unfoldable pub lineRoot : ℕ → List ℕ
 lineRoot n = numbers (rootOf (line 0 n) n)
 
--- device 0 with a hole from bucket 1 up to 4, and one key: a run of size 0 at bucket 2
-unfoldable pub hole : Book
-hole = record {
+-- a book of device 0 with first bucket 1, four buckets, the drawn mark or not, and these keys, n in number
+abbrev pub book : Bool → ℕ → List Bkey → Book
+book drawn n keys = record {
   header = record {
     layout = 1;
     trees = true;
-    drawn = false;
+    drawn = drawn;
     spare = 0;
     version = 1063;
     «first_bucket» = 1;
-    keys = 1;
+    keys = n;
     device = 0;
     buckets = 4;
     parents = 0;
@@ -87,17 +92,38 @@ hole = record {
   subvolumes = [];
   gens = [];
   alloc = [];
-  keys = key 11 25 0 2 [] ∷ [];
+  keys = keys;
 }
+
+-- a hole from bucket 1 up to 4, and one key: a run of size 0 at bucket 2
+unfoldable pub hole : Book
+hole = book false 1 (key 11 25 0 2 [] ∷ [])
+
+-- a snapshot of 8 value bytes with this parent word
+unfoldable pub snapshot : ℕ → ℕ → Bkey
+snapshot id parent = key 9 22 0 id (zeros 4 ++ word parent)
+
+-- snapshots n down to 1, each with the one below it as its parent
+unfoldable pub snapshots : ℕ → List Bkey
+snapshots zero = []
+snapshots (suc n) = snapshot (suc n) n ∷ snapshots n
+
+-- the root above the last of these, n - 1 links away, by drawn parents
+unfoldable pub drawnRoot : ℕ → List ℕ
+drawnRoot n = numbers (rootOf (parentsOf (book true n (snapshots n))) n)
+
+-- the root above snapshot 7 that is its own parent, likewise
+unfoldable pub ownRoot : List ℕ
+ownRoot = numbers (rootOf (parentsOf (book true 1 (snapshot 7 7 ∷ []))) 7)
 
 -- a finding as three numbers, and the numbers of findings
 unfoldable pub flat : List Finding → List ℕ
 flat [] = []
 flat (f ∷ fs) = f .kind ∷ f .subject ∷ f .object ∷ flat fs
 
--- THE TABLE
-unfoldable pub rows : List Row
-rows =
+-- document 01's rows
+unfoldable pub marked : List Row
+marked =
     -- "subvolume states 0x4ad5447d † kind 26"
     row (stateKinds 1062 0x4ad5447d) (26 ∷ [])
     ∷ row (stateKinds 1063 0x4ad5447d) (26 ∷ [])
@@ -128,3 +154,11 @@ rows =
     -- "A run of size 0 over a hole † splits it"
     ∷ row (flat (freeSpace hole)) (50 ∷ 1 ∷ 2 ∷ 50 ∷ 2 ∷ 4 ∷ [])
     ∷ []
+
+-- those on parents, by drawn parents (document 02, ticket 2)
+unfoldable pub drawnMarked : List Row
+drawnMarked = row (drawnRoot 1025) (1 ∷ 1024 ∷ []) ∷ row (drawnRoot 1026) [] ∷ row ownRoot [] ∷ []
+
+-- THE TABLE
+unfoldable pub rows : List Row
+rows = marked ++ drawnMarked
