@@ -169,7 +169,7 @@ fn with_links(root: Root, links: u32) -> Root
     }
 }
 
-// The line of `id`, by a walk of its chain; `near` is a place near its own in the table.
+// The line of `id`, by a walk of its chain; `near` is a place near its own where the parents are found.
 pub fn line_of(
     book: &[u8],
     work: &[u64],
