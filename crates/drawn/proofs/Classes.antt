@@ -21,9 +21,17 @@ use Rattle.maps.specs.LastKeys.{lastKey, later, wordAt}
 use Rattle.maps.proofs.Pairs.{which-part}
 use Rattle.maps.proofs.Places.{Gives, Held}
 use Rattle.maps.proofs.LastKeys.{key-law, place-law, key-held, key-same, key-later}
-use Rattle.drawn.specs.Classes.{classOf, ofClass, linkPair, bytesOf, latest}
+use Rattle.drawn.specs.Classes.{classOf, linkPair, latest}
 
 -- ---- the classes
+-- a snapshot of this class
+unfoldable pub ofClass : ℕ → Bkey → Bool
+ofClass class k = holds 9 22 8 k && eqb (classOf (length (k .value))) class
+
+-- the least number of value bytes of a class
+unfoldable pub bytesOf : ℕ → ℕ
+bytesOf class = cond (eqb class 3) 40 (cond (eqb class 2) 24 8)
+
 pub class-few : (n : ℕ) → (1 ≤ classOf n) × (classOf n ≤ 3)
 unfolding classOf
 class-few n = by (leb 40 n) (leb 24 n)

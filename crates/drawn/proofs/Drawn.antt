@@ -14,8 +14,8 @@ use Rattle.book.specs.Walk.{KeysFit}
 use Rattle.maps.specs.Sorted.{AllPairs}
 use Rattle.maps.specs.LastKeys.{lastKey, wordAt}
 use Rattle.maps.proofs.LastKeys.{key-law, key-held}
-use Rattle.drawn.specs.Classes.{linkPair, bytesOf, latest, SnapshotAt}
-use Rattle.drawn.proofs.Classes.{latest-law, latest-held}
+use Rattle.drawn.specs.Classes.{linkPair, latest, SnapshotAt}
+use Rattle.drawn.proofs.Classes.{bytesOf, latest-law, latest-held}
 use Rattle.drawn.proofs.Scan.{held-snapshot}
 
 -- a place of which it is known that a snapshot stands there, if it is one

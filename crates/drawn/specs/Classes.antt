@@ -2,7 +2,7 @@
 -- and of a snapshot how long its value is.
 use Prim.Native.Nat.{ℕ, _+_, _-_, _*_, _^_, _≤_, _<_}
 use Rattle.pairs.specs.Pairs.{pair, pairAt}
-use mathlib.Core.Bool.{Bool, cond, _&&_}
+use mathlib.Core.Bool.{cond}
 use mathlib.Core.List.{List, [], _∷_}
 use lib.ListN.{length}
 use lib.Dec.{eqb, leb}
@@ -18,17 +18,9 @@ use Rattle.maps.specs.LastKeys.{later}
 unfoldable pub classOf : ℕ → ℕ
 classOf bytes = cond (leb 40 bytes) 3 (cond (leb 24 bytes) 2 1)
 
--- a snapshot of this class
-unfoldable pub ofClass : ℕ → Bkey → Bool
-ofClass class k = holds 9 22 8 k && eqb (classOf (length (k .value))) class
-
 -- the pair that a key gives: a tree record in map 0, a snapshot in the map of its class
 unfoldable pub linkPair : ℕ → Bkey → List ℕ
 linkPair p k = cond (holds 15 31 8 k) (placePair 0 (idOf k) p ∷ []) (cond (holds 9 22 8 k) (placePair (classOf (length (k .value))) (idOf k) p ∷ []) [])
-
--- the least number of value bytes of a class
-unfoldable pub bytesOf : ℕ → ℕ
-bytesOf class = cond (eqb class 3) 40 (cond (eqb class 2) 24 8)
 
 -- the last place of an id among the snapshots of this class and those above it
 unfoldable pub latest : ℕ → ℕ → List ℕ → MaybeU64

@@ -26,8 +26,8 @@ use Rattle.maps.specs.LastKeys.{wordAt}
 use Rattle.book.specs.Words.{holds, treeWord, masterWord, rootWord, idOf}
 use Rattle.links.specs.SnapshotLinks.{treeMap, treeOfMap, treeFindings}
 use Rattle.links.specs.Steps.{rootNamed, treeAt, sourceOf, Ready}
-use Rattle.drawn.specs.Classes.{bytesOf, latest}
-use Rattle.drawn.proofs.Classes.{trees-give, latest-law, latest-held}
+use Rattle.drawn.specs.Classes.{latest}
+use Rattle.drawn.proofs.Classes.{bytesOf, trees-give, latest-law, latest-held}
 use Rattle.drawn.proofs.Scan.{holds-long}
 use Rattle.parents.specs.declared.Source.{Source}
 use Rattle.parents.specs.declared.Source.the-variants.{Table, Pairs}

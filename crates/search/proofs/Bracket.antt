@@ -3,7 +3,7 @@ use Prim.Native.Nat.{ℕ, zero, suc, _+_, _-_, _/_, _≤_, _<_, zero-le}
 use mathlib.Core.Path.{_≡_}
 use mathlib.Core.Logic.{_⊎_, inl, inr}
 use native.Mathlib.Decide.{decLe}
-use native.Mathlib.Nat.{zero-add, lt-of-not-le, le-refl, le-trans, lt-trans, lt-of-le-of-lt, not-suc-le-zero, le-of-suc-le-suc, eq-or-lt-of-le}
+use native.Mathlib.Nat.{lt-of-not-le, le-refl, le-trans, lt-trans, lt-of-le-of-lt, not-suc-le-zero, le-of-suc-le-suc, eq-or-lt-of-le}
 use native.Mathlib.Omega.{arith}
 use Rattle.search.specs.Bound.{LowerBound}
 pub use Rattle.search.specs.Bound.{Bracket}
@@ -74,9 +74,6 @@ abbrev pub Sized : (ℕ → ℕ) → ℕ → ℕ → ℕ → ℕ → Type 0
 Sized f n x low size = Bracket f n x low (low + size)
 
 -- before the first turn
-pub sized-all : (f : ℕ → ℕ) (n x : ℕ) → Sized f n x 0 n
-sized-all f n x = rw (zero-add n) (bracket-all f n x)
-
 pub sized-window : {f : ℕ → ℕ} {n x low high : ℕ} → Bracket f n x low high → Sized f n x low (high - low)
 sized-window {low = low} {high = high} b = let o = b .ordered in let e : low + (high - low) ≡ high = omega arith in rw e b
 
