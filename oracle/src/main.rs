@@ -1,6 +1,7 @@
 //! Holds Dockwrench against the published Rust program. README.md beside this folder says how to run it.
 mod books;
 mod compare;
+mod every;
 mod expected;
 mod large;
 mod layout;
@@ -23,6 +24,7 @@ use std::time::Duration;
 const USAGE: &str = "\
 usage: oracle run [MODE|all] [BOOKS] [SEED]   compares so many books of each mode, in a run over all fewer long ones
        oracle judge HEX                       writes what both say of one book
+       oracle every                           compares accounting keys with values of every length
        oracle large                           compares the books of docs/SPEED.md, in four orders and forms
        oracle books PAGE                      holds both to the books of a page, as docs/DIFFERENCES.md
        oracle list FOLDER                     writes the list that the program `replay` runs: stdin and stdout
@@ -35,6 +37,7 @@ fn main() -> ExitCode {
     let args: Vec<&str> = args.iter().map(String::as_str).collect();
     let is_good = match args[..] {
         ["run", ref rest @ ..] => run(rest),
+        ["every"] => Some(every::run()),
         ["large"] => Some(large::run()),
         ["judge", hex] => judge(hex),
         ["books", page] => books(page),

@@ -1,7 +1,8 @@
--- Examples of alloc_v4 values and of replicas, by computing.
+-- Examples of alloc_v4 values, of replicas and of counters, by computing.
 use mathlib.Core.Path.{_≡_, refl}
+use mathlib.Core.Bool.{Bool, true, false}
 use mathlib.Core.List.{List, [], _∷_, _++_, map}
-use Prim.Native.Nat.{ℕ}
+use Prim.Native.Nat.{ℕ, _/_}
 use lib.ListN.{replicate}
 use Rattle.bits.specs.Bits.{leAt}
 use Rattle.findings.specs.Findings.{finding, when, only, bytesOf}
@@ -31,3 +32,13 @@ examples : map (checkKeyFields 7) keys ≡
     (finding 12 7 0 ∷ []) ∷ [] ∷ (finding 12 7 0 ∷ []) ∷ (finding 12 7 0 ∷ []) ∷ [] ∷ [] ∷ []
 unfolding zeros pointer alloc accounting keys leAt bytesOf when only is hasRow sizeZero snapshotZero minimumValue accountingPositionBytes accountingKind replicasEnd accountingFields someNonzero someNotRising replicasEntryRefused countersBad checkAccountingKey backpointersStart allocV4Bytes checkAllocV4Value accountingJunk foreignType checkPosition checkKeyFields
 examples = refl
+
+-- values of 0, 7, 8, 31, 32, 33 and 2,047 bytes
+judged : ℕ → List Bool
+judged kind = map (λ (bytes : ℕ). countersBad kind (bytes / 8)) (0 ∷ 7 ∷ 8 ∷ 31 ∷ 32 ∷ 33 ∷ 2047 ∷ [])
+
+-- of kinds replicas and dev_data_type
+counters : map judged (2 ∷ 3 ∷ []) ≡
+    (true ∷ true ∷ false ∷ false ∷ true ∷ true ∷ true ∷ []) ∷ (false ∷ false ∷ false ∷ false ∷ true ∷ true ∷ true ∷ []) ∷ []
+unfolding judged countersBad
+counters = refl

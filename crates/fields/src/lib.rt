@@ -2,8 +2,9 @@
 ghost use mathlib.Core.Path.{_≡_};
 ghost use mathlib.Core.Bool.{cond};
 ghost use mathlib.Core.List.{[]};
-ghost use Prim.Native.Nat.{_+_, _<_, _≤_, _%_, _^_};
+ghost use Prim.Native.Nat.{_+_, _/_, _<_, _≤_, _%_, _^_};
 ghost use lib.ListN.{length};
+ghost use lib.Dec.{eqb, ltb};
 ghost use Rattle.bits.specs.Bits.{leAt};
 ghost use Rattle.findings.specs.Findings.{sink, Found, Added};
 ghost use Rattle.book.specs.Book.{bkey};
@@ -204,26 +205,26 @@ fn accounting_position_bytes(h: KeyHead) -> [u8; 20]
     ensures { λ r. ⌜ r ≡ accountingPositionBytes (bkey h []) ⌝ }
 {
     [
-        (h.inode / 0x0100_0000_0000_0000 % 256) as u8,
-        (h.inode / 0x0001_0000_0000_0000 % 256) as u8,
-        (h.inode / 0x0000_0100_0000_0000 % 256) as u8,
-        (h.inode / 0x0000_0001_0000_0000 % 256) as u8,
-        (h.inode / 0x0000_0000_0100_0000 % 256) as u8,
-        (h.inode / 0x0000_0000_0001_0000 % 256) as u8,
-        (h.inode / 0x0000_0000_0000_0100 % 256) as u8,
-        (h.inode / 1 % 256) as u8,
-        (h.offset / 0x0100_0000_0000_0000 % 256) as u8,
-        (h.offset / 0x0001_0000_0000_0000 % 256) as u8,
-        (h.offset / 0x0000_0100_0000_0000 % 256) as u8,
-        (h.offset / 0x0000_0001_0000_0000 % 256) as u8,
-        (h.offset / 0x0000_0000_0100_0000 % 256) as u8,
-        (h.offset / 0x0000_0000_0001_0000 % 256) as u8,
-        (h.offset / 0x0000_0000_0000_0100 % 256) as u8,
-        (h.offset / 1 % 256) as u8,
-        (h.snapshot / 0x0100_0000 % 256) as u8,
-        (h.snapshot / 0x0001_0000 % 256) as u8,
-        (h.snapshot / 0x0000_0100 % 256) as u8,
-        (h.snapshot / 1 % 256) as u8,
+        ((h.inode >> 56) % 256) as u8,
+        ((h.inode >> 48) % 256) as u8,
+        ((h.inode >> 40) % 256) as u8,
+        ((h.inode >> 32) % 256) as u8,
+        ((h.inode >> 24) % 256) as u8,
+        ((h.inode >> 16) % 256) as u8,
+        ((h.inode >> 8) % 256) as u8,
+        (h.inode % 256) as u8,
+        ((h.offset >> 56) % 256) as u8,
+        ((h.offset >> 48) % 256) as u8,
+        ((h.offset >> 40) % 256) as u8,
+        ((h.offset >> 32) % 256) as u8,
+        ((h.offset >> 24) % 256) as u8,
+        ((h.offset >> 16) % 256) as u8,
+        ((h.offset >> 8) % 256) as u8,
+        (h.offset % 256) as u8,
+        ((h.snapshot >> 24) % 256) as u8,
+        ((h.snapshot >> 16) % 256) as u8,
+        ((h.snapshot >> 8) % 256) as u8,
+        (h.snapshot % 256) as u8,
     ]
 }
 
@@ -300,11 +301,31 @@ fn replicas_entry_refused(bytes: &[u8; 20]) -> bool
     (devices == 0) | (((1 < required) & (devices <= required)) | unsorted)
 }
 
-// Whether a key of this kind may not have so many counters.
-fn counters_bad(kind: u64, counters: usize) -> bool
-    ensures { λ r. ⌜ r ≡ countersBad kind counters ⌝ }
+// The bytes of a counter.
+const ONE_COUNTER: usize = 8;
+
+// The bytes of four counters, one more than a key may have.
+const FOUR_COUNTERS: usize = 32;
+
+// Whether so many bytes hold no counter.
+fn no_counter(bytes: usize) -> bool
+    ensures { λ r. ⌜ r ≡ eqb (bytes / 8) 0 ⌝ }
 {
-    (3 < counters) | ((counters == 0) & (kind != 3))
+    bytes < ONE_COUNTER
+}
+
+// Whether so many bytes hold more than three counters.
+fn over_three_counters(bytes: usize) -> bool
+    ensures { λ r. ⌜ r ≡ ltb 3 (bytes / 8) ⌝ }
+{
+    FOUR_COUNTERS <= bytes
+}
+
+// Whether a key of this kind may not have the counters that so many bytes hold: only dev_data_type (3) may have none.
+fn counters_bad(kind: u64, bytes: usize) -> bool
+    ensures { λ r. ⌜ r ≡ countersBad kind (bytes / 8) ⌝ }
+{
+    over_three_counters(bytes) | (no_counter(bytes) & (kind != 3))
 }
 
 // Kinds 6 to 8: an accounting key of kind nr_inodes, replicas or dev_data_type.
@@ -320,7 +341,7 @@ fn check_accounting_key(
     ensures added { λ r. ⌜ Added (sink (now (out .entry)) (now (counts .entry))) n (checkAccountingKey i (bkey h (now (value .entry)))) r (sink (now (out .exit)) (now (counts .exit))) ⌝ }
     ensures few { λ r. ⌜ r ≤ n + 3 ⌝ }
 {
-    let kind = h.inode / 0x0100_0000_0000_0000;
+    let kind = h.inode >> 56;
     if !((kind == 0) | ((kind == 2) | (kind == 3))) {
         return n;
     }
@@ -328,7 +349,7 @@ fn check_accounting_key(
     let n = findings::emit_if(out, counts, n, junk_at_end(kind, &bytes), 6, i, 0);
     let refused = (kind == 2) & replicas_entry_refused(&bytes);
     let n = findings::emit_if(out, counts, n, refused, 7, i, 0);
-    findings::emit_if(out, counts, n, counters_bad(kind, value.len() / 8), 8, i, 0)
+    findings::emit_if(out, counts, n, counters_bad(kind, value.len()), 8, i, 0)
 }
 
 // Kinds 9 and 10: the third word of an inode's value.
@@ -472,7 +493,7 @@ fn front_pad_bad(value: &[u8]) -> bool
 fn accounting_junk(h: KeyHead) -> bool
     ensures { λ r. ⌜ r ≡ accountingJunk (bkey h []) ⌝ }
 {
-    let kind = h.inode / 0x0100_0000_0000_0000;
+    let kind = h.inode >> 56;
     let below = h.inode % 0x0001_0000_0000_0000;
     ((kind == 6) & ((below != 0) | ((h.offset != 0) | (h.snapshot != 0))))
         | ((kind == 5) & (h.offset != 0))
