@@ -32,6 +32,7 @@ pub fn run() -> bool {
             return false;
         }
     }
-    println!("accounting keys of {} kinds, each with values of 0 to {LONGEST} bytes: {found} findings, no difference", ACCOUNTING_KINDS.len());
+    let kinds = ACCOUNTING_KINDS.len();
+    println!("accounting keys of {kinds} kinds, each with values of 0 to {LONGEST} bytes: {found} findings, no difference");
     true
 }
