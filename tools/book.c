@@ -28,13 +28,17 @@
 static const char *const btrees[256] = {
     "extents", "inodes", "dirents", "xattrs", "alloc", "quotas", "stripes", "reflink", "subvolumes", "snapshots", "lru",
     "freespace", "need_discard", "backpointers", "bucket_gens", "snapshot_trees", "deleted_inodes", "logged_ops",
-    "rebalance_work", "subvolume_children", "accounting",
+    "rebalance_work", "subvolume_children", "accounting", "reconcile_hipri", "reconcile_pending", "reconcile_scan",
+    "reconcile_work_phys", "reconcile_hipri_phys", "bucket_to_stripe", "stripe_backpointers", "damage",
 };
 static const char *const types[256] = {
-    [0] = "deleted", [1] = "whiteout", [2] = "error", [3] = "cookie", [4] = "hash_whiteout", [6] = "extent", [10] = "dirent",
-    [11] = "xattr", [15] = "reflink_p", [16] = "reflink_v", [21] = "subvolume", [22] = "snapshot", [25] = "set", [27] = "alloc_v4",
-    [28] = "backpointer", [29] = "inode_v3", [30] = "bucket_gens", [31] = "snapshot_tree", [32] = "logged_op_truncate",
-    [33] = "logged_op_finsert", [34] = "accounting", [35] = "inode_alloc_cursor",
+    [0] = "deleted", [1] = "whiteout", [2] = "error", [3] = "cookie", [4] = "hash_whiteout", [6] = "extent",
+    [7] = "reservation", [8] = "inode", [9] = "inode_generation", [10] = "dirent", [11] = "xattr", [12] = "alloc",
+    [13] = "quota", [14] = "stripe", [15] = "reflink_p", [16] = "reflink_v", [17] = "inline_data",
+    [19] = "indirect_inline_data", [20] = "alloc_v2", [21] = "subvolume", [22] = "snapshot", [23] = "inode_v2",
+    [24] = "alloc_v3", [25] = "set", [27] = "alloc_v4", [28] = "backpointer", [29] = "inode_v3", [30] = "bucket_gens",
+    [31] = "snapshot_tree", [32] = "logged_op_truncate", [33] = "logged_op_finsert", [34] = "accounting",
+    [35] = "inode_alloc_cursor", [36] = "extent_whiteout",
 };
 
 /* How a field stands in the text. */

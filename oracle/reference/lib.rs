@@ -46,6 +46,12 @@ pub trait Rules {
     fn snapshot_links(trees: &Trees, parents: &BTreeMap<u32, u32>, subvolumes: &BTreeMap<u32, (u64, u32)>, r: &mut Report);
     fn bucket_gens_against_alloc(trees: &Trees, gens: &BTreeMap<u64, u8>, dev: u64, r: &mut Report);
     fn free_space(runs: &[Bkey], alloc: &BTreeMap<u64, Option<u8>>, dev: u64, m: &Member, r: &mut Report);
+    /// The rows of KEY_TYPES_ALLOWED: a btree, and the types that it holds beside those of KEY_TYPES_ANYWHERE.
+    fn key_types_allowed() -> &'static [(u8, &'static [u8])];
+    fn key_types_anywhere() -> &'static [u8];
+    /// Whether a btree has a row, and holds no key of this type.
+    fn is_foreign(id: u8, key_type: u8) -> bool;
+    fn add_foreign_type(id: u8, k: &Bkey, r: &mut Report);
 }
 
 pub struct Published;

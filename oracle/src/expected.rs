@@ -1,7 +1,7 @@
 //! What documents 01 and 02 state for a book: the answers of the three calls, with the published rules as the judge of the findings.
 use crate::layout::{Book, Refusal};
 use crate::library::{After, Answer, FINDING_BYTES};
-use crate::published::{self, Finding, Maps, Parents};
+use crate::published::{self, Finding, Maps, Parents, Said};
 use crate::states;
 use std::collections::BTreeSet;
 
@@ -43,16 +43,16 @@ impl Change {
 
 impl Expected {
     pub fn of(bytes: &[u8]) -> Expected {
-        Expected::over(bytes, published::parents)
+        Expected::by(bytes, published::parents, Maps::judge)
     }
 
-    /// The same with parents by another reading.
-    pub fn over(bytes: &[u8], parents: impl Fn(&Book) -> Parents) -> Expected {
+    /// The same with parents, or with a judge, by another reading.
+    pub fn by(bytes: &[u8], parents: impl Fn(&Book) -> Parents, judge: impl Fn(&Maps) -> Said) -> Expected {
         match Book::decode(bytes) {
             Err(refusal) => Expected::Refused(refusal),
             Ok(book) => {
                 let maps = Box::new(Maps::over(&book, parents(&book)));
-                let said = maps.judge();
+                let said = judge(&maps);
                 let mut findings = said.findings();
                 name_states(&book, &mut findings);
                 Expected::Accepted { maps, keys: book.keys.len(), findings, unavailable: said.unavailable }

@@ -24,7 +24,7 @@ use std::time::Duration;
 const USAGE: &str = "\
 usage: oracle run [MODE|all] [BOOKS] [SEED]   compares so many books of each mode, in a run over all fewer long ones
        oracle judge HEX                       writes what both say of one book
-       oracle every                           compares accounting keys with values of every length
+       oracle every                           compares accounting values of every length, keys of every btree and type
        oracle large                           compares the books of docs/SPEED.md, in four orders and forms
        oracle books PAGE                      holds both to the books of a page, as docs/DIFFERENCES.md
        oracle list FOLDER                     writes the list that the program `replay` runs: stdin and stdout
@@ -161,7 +161,8 @@ fn speed(named: &str) -> Option<bool> {
     table("book");
     let rows = speed::rows().into_iter().filter(|(name, _)| name.contains(named));
     let is_ahead = rows.fold(true, |is_ahead, (name, book)| row(name, &book) && is_ahead);
-    for (title, books) in [("long tables", speed::tables()), ("drawn parents", speed::drawn())] {
+    let tables = [("long tables", speed::tables()), ("drawn parents", speed::drawn()), ("key types", speed::types())];
+    for (title, books) in tables {
         println!();
         table(title);
         for (name, book) in books.into_iter().filter(|(name, _)| name.contains(named)) {

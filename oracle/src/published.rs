@@ -3,7 +3,7 @@ use crate::books::values::{word, FREESPACE, PARENT_WORD, SNAPSHOTS, TREES, T_SNA
 use crate::layout::{Book, Key};
 use crate::texts;
 use reference::bkey::{Bkey, Bpos};
-use reference::check::Report;
+use reference::check::{Problem, Report};
 use reference::superblock::{Member, Version};
 use reference::{Published, Rules, Trees};
 use std::collections::{BTreeMap, BTreeSet};
@@ -36,6 +36,14 @@ fn drawn(keys: &[Key]) -> Parents {
         }
     }
     parents
+}
+
+/// Drops the problem of kind 22 that the fields of a key gave, where the ticket's own is at an index.
+pub fn once(problems: &mut Vec<Problem>, _: usize, at: usize) {
+    let is_second = |i: &usize| problems[*i].kind == problems[at].kind;
+    if let Some(second) = (at + 1..problems.len()).find(is_second) {
+        problems.remove(second);
+    }
 }
 
 /// A book as the published rules take it.
@@ -96,13 +104,32 @@ impl Maps {
         }
     }
 
-    /// The rules in document 01's order. This is what is timed as the Rust rules' own time.
+    /// The rules in document 01's order, with the two spots of document 02's ticket 4. This is what is timed as the
+    /// Rust rules' own time.
     pub fn judge(&self) -> Said {
+        self.judge_by(Published::is_foreign, once)
+    }
+
+    /// The same with another reading of ticket 4: whether a type is foreign to a btree, and what becomes of a key's
+    /// problems after its fields if it is. They start at the first index, and the ticket's own is at the second.
+    pub fn judge_by<F, S>(&self, is_foreign: F, settle: S) -> Said
+    where
+        F: Fn(u8, u8) -> bool,
+        S: Fn(&mut Vec<Problem>, usize, usize),
+    {
         let mut r = Report::default();
         let mut after = Vec::with_capacity(self.keys.len());
         for (btree, key) in &self.keys {
+            let first = r.problems.len();
             Published::check_key_device(*btree, key, self.device, &mut r);
+            let foreign = is_foreign(*btree, key.key_type).then_some(r.problems.len());
+            if foreign.is_some() {
+                Published::add_foreign_type(*btree, key, &mut r);
+            }
             Published::check_key_fields(*btree, key, &mut r);
+            if let Some(at) = foreign {
+                settle(&mut r.problems, first, at);
+            }
             Published::check_state_words(self.version, *btree, key, &mut r);
             after.push(r.problems.len());
         }

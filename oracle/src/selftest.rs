@@ -1,14 +1,16 @@
-//! Shows that a run can fail: one finding of the judge is changed, or drawn parents are read by another rule, and each time the difference has to
-//! be seen and the book made small.
-use crate::books::values::{SNAPSHOTS, T_SNAPSHOT};
+//! Shows that a run can fail: one finding of the judge is changed, or drawn parents or foreign types are read by
+//! another rule, and each time the difference has to be seen and the book made small.
+use crate::books::values::{DIRENTS, LRU, SNAPSHOTS, T_SNAPSHOT, XATTRS};
 use crate::books::{self, Mode};
 use crate::compare::{compare_with, Counts};
 use crate::expected::{Change, Expected};
-use crate::layout::Key;
+use crate::layout::{Book, Key};
 use crate::library::Areas;
-use crate::published;
+use crate::published::{self, once, Maps};
 use crate::shrink;
 use crate::text;
+use reference::check::Problem;
+use reference::{Published, Rules};
 
 const SEED: u64 = 1;
 const MOST_BOOKS: u64 = 100_000;
@@ -23,7 +25,7 @@ const MOST_KEYS: usize = 3;
 const LONGEST_SHOWN: usize = 500;
 
 /// Other readings of the rule for drawn parents: what is done to the keys before it is applied.
-const READINGS: [(&str, fn(&mut Vec<Key>)); 8] = [
+const PARENT_READINGS: [(&str, fn(&mut Vec<Key>)); 8] = [
     ("no key is read", |keys| keys.clear()),
     ("the first key wins", |keys| keys.reverse()),
     ("the longest key wins", |keys| keys.sort_by_key(|k| k.value.len())),
@@ -34,11 +36,47 @@ const READINGS: [(&str, fn(&mut Vec<Key>)); 8] = [
     ("any type counts", |keys| keys.iter_mut().for_each(|k| k.key_type = T_SNAPSHOT)),
 ];
 
-/// What is made wrong: the last finding of a kind, or the reading of drawn parents, of which only books count in which it changes a finding.
+/// Another reading of the rule for types: whether one is foreign to a btree, and what becomes of its key's problems.
+type Types = (&'static str, fn(u8, u8) -> bool, fn(&mut Vec<Problem>, usize, usize));
+
+/// That 22 comes behind what the fields give, or where they gave it, is no other reading: all else that they give is
+/// for types that the btree holds (`oracle every` counts it).
+const TYPE_READINGS: [Types; 9] = [
+    ("an empty row is no row", |btree, t| foreign(btree, t) && !row(btree).is_some_and(<[u8]>::is_empty), once),
+    ("no row is an empty row", |btree, t| foreign(if row(btree).is_none() { LRU } else { btree }, t), once),
+    ("xattrs hold what dirents hold", |btree, t| foreign(if btree == XATTRS { DIRENTS } else { btree }, t), once),
+    ("a type of any row is held", |btree, t| foreign(btree, t) && !is_in_a_row(t), once),
+    ("type 40 is not anywhere", |btree, t| foreign(btree, t) || row(btree).is_some() && t == 40, once),
+    ("types have six bits", |btree, t| foreign(btree, t % 64), once),
+    ("types over 63 are held", |btree, t| foreign(btree, t) && t < 64, once),
+    ("kind 22 twice where the fields give it too", foreign, |_, _, _| ()),
+    ("kind 22 before the device's", foreign, foremost),
+];
+
+fn foreign(btree: u8, key_type: u8) -> bool {
+    Published::is_foreign(btree, key_type)
+}
+
+fn row(btree: u8) -> Option<&'static [u8]> {
+    Published::key_types_allowed().iter().find(|(id, _)| *id == btree).map(|&(_, row)| row)
+}
+
+fn is_in_a_row(key_type: u8) -> bool {
+    Published::key_types_allowed().iter().any(|(_, row)| row.contains(&key_type))
+}
+
+/// Kind 22 once, before all other problems of its key.
+fn foremost(problems: &mut Vec<Problem>, first: usize, at: usize) {
+    once(problems, first, at);
+    problems[first..=at].rotate_right(1);
+}
+
+/// What is made wrong: the last finding of a kind, or a reading, where only books count in which it changes a finding.
 #[derive(Clone, Copy)]
 enum Wrong {
     Finding(Change, u8),
     Parents(&'static str, fn(&mut Vec<Key>)),
+    Types(Types),
 }
 
 /// A wrong judge, tried on the first book of these modes where it is wrong. Only books of so many keys or more are judged wrong.
@@ -50,18 +88,27 @@ struct Case {
 
 /// Makes each change in each kind, and each in long books, and each other reading, and says what was seen.
 pub fn run() -> bool {
-    let of_each_kind = |change| KINDS.map(move |kind| Case { modes: &[Mode::Mixed, Mode::Runs], wrong: Wrong::Finding(change, kind), keys: 0 });
-    let in_long_books = |change| LONG_MODES.map(|modes| Case { modes, wrong: Wrong::Finding(change, LONG_KIND), keys: 0 });
-    let with_many_keys = LONG_MODES.map(|modes| Case { modes, wrong: Wrong::Finding(Change::Dropped, LONG_KIND), keys: NEEDED_KEYS });
-    let of_parents = READINGS.map(|(name, read)| Case { modes: &[Mode::Drawn], wrong: Wrong::Parents(name, read), keys: 0 });
+    let either = &[Mode::Mixed, Mode::Runs];
+    let of_each_kind = |change| KINDS.map(move |kind| Case::of(either, Wrong::Finding(change, kind)));
+    let in_long_books = |change| LONG_MODES.map(|modes| Case::of(modes, Wrong::Finding(change, LONG_KIND)));
+    let dropped = Wrong::Finding(Change::Dropped, LONG_KIND);
+    let with_many_keys = LONG_MODES.map(|modes| Case { keys: NEEDED_KEYS, ..Case::of(modes, dropped) });
+    let of_parents = PARENT_READINGS.map(|(name, read)| Case::of(&[Mode::Drawn], Wrong::Parents(name, read)));
+    let of_types = TYPE_READINGS.map(|types| Case::of(&[Mode::Mixed], Wrong::Types(types)));
     let mut cases: Vec<Case> = Change::ALL.into_iter().flat_map(of_each_kind).collect();
-    cases.extend(Change::ALL.into_iter().flat_map(in_long_books).chain(with_many_keys).chain(of_parents));
+    cases.extend(Change::ALL.into_iter().flat_map(in_long_books).chain(with_many_keys));
+    cases.extend(of_parents.into_iter().chain(of_types));
     let unseen = cases.iter().filter(|case| !case.show()).count();
     println!("{} changes, {unseen} of them not seen", cases.len());
     unseen == 0
 }
 
 impl Case {
+    /// A wrong judge of books of any number of keys.
+    fn of(modes: &'static [Mode], wrong: Wrong) -> Case {
+        Case { modes, wrong, keys: 0 }
+    }
+
     /// Says what was seen; whether it was a difference that was made small.
     fn show(&self) -> bool {
         let seen = self.see();
@@ -107,22 +154,27 @@ impl Wrong {
     fn name(self) -> String {
         match self {
             Wrong::Finding(change, kind) => format!("{} of kind {kind}", change.name()),
-            Wrong::Parents(name, _) => name.to_string(),
+            Wrong::Parents(name, _) | Wrong::Types((name, ..)) => name.to_string(),
         }
     }
 
     /// The answers to a book, made wrong where that can be done.
     fn apply(self, mut right: Expected, bytes: &[u8]) -> Option<Expected> {
-        match self {
-            Wrong::Finding(change, kind) => right.change(change, kind).then_some(right),
+        let wrong = match self {
+            Wrong::Finding(change, kind) => return right.change(change, kind).then_some(right),
             Wrong::Parents(_, read) => {
-                let wrong = Expected::over(bytes, |book| {
+                let parents = |book: &Book| {
                     let mut book = book.clone();
                     read(&mut book.keys);
                     published::parents(&book)
-                });
-                (wrong.findings() != right.findings()).then_some(wrong)
+                };
+                Expected::by(bytes, parents, Maps::judge)
             }
-        }
+            Wrong::Types((_, is_foreign, settle)) => {
+                let judge = |maps: &Maps| maps.judge_by(is_foreign, settle);
+                Expected::by(bytes, published::parents, judge)
+            }
+        };
+        (wrong.findings() != right.findings()).then_some(wrong)
     }
 }

@@ -57,6 +57,18 @@ pub fn drawn() -> Vec<(&'static str, Book)> {
     ]
 }
 
+/// Keys of types that their btree holds, of one that it does not, of all btrees and types in turn, and of a btree that
+/// the table of types does not have.
+pub fn types() -> Vec<(&'static str, Book)> {
+    vec![
+        ("37,000 extents", typed(|_| (EXTENTS, T_EXTENT))),
+        ("37,000 keys of type 40 in the damage btree", typed(|_| (DAMAGE, 40))),
+        ("37,000 snapshots in the extents btree", typed(|_| (EXTENTS, T_SNAPSHOT))),
+        ("37,000 keys of 29 btrees and 64 types in turn", typed(|i| ((i % 29) as u8, (i * 7 % 64) as u8))),
+        ("37,000 extents in btree 200", typed(|_| (200, T_EXTENT))),
+    ]
+}
+
 /// Drawn books of a mebibyte for the ancestor question, with the id that has 1,024 links above it.
 pub fn questions() -> Vec<(&'static str, Book, u32)> {
     let (in_order, foot) = upward_chains();
@@ -119,6 +131,15 @@ fn free_runs() -> Book {
     let count = 37_000;
     let run = |i: u64| Key { size: 4, ..key(FREESPACE, T_SET, 0, 4 * (i * 7_919 % count + 1), Vec::new()) };
     Book { buckets: 4 * count, keys: (0..count).map(run).collect(), ..empty() }
+}
+
+/// Keys without a value, each of the btree and type that its place gives.
+fn typed(pair: fn(u64) -> (u8, u8)) -> Book {
+    let make = |i: u64| {
+        let (btree, key_type) = pair(i);
+        key(btree, key_type, 0, i, Vec::new())
+    };
+    Book { keys: (0..37_000).map(make).collect(), ..empty() }
 }
 
 /// A sound snapshot at `depth` of the chain of ids from `root` on.

@@ -43,6 +43,7 @@ const KINDS: [(&str, &[&str]); 50] = [
     (
         "bkey_invalid_type_for_btree",
         &[
+            "btree {w}: key {p} is of type {n}, which the btree does not hold",
             "btree {w}: key {p} is an xattr",
             "btree {w}: key {p} is a logged operation (type {n})",
             "btree {w}: key {p} is an inode",

@@ -1,3 +1,4 @@
+pub mod Names
 pub mod Maps
 pub mod Book
 pub mod Words

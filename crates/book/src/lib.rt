@@ -6,6 +6,8 @@ ghost use Rattle.book.specs.Book.{keyHead};
 ghost use Rattle.book.specs.Walk.{frontOf};
 use bits::Cursor;
 
+pub mod names;
+
 // The first 32 bytes, field by field. The mark `trees` says that the snapshot_trees btree is present, the mark `drawn` that the parents are
 // those of the snapshot keys.
 pub struct Header {

@@ -7,7 +7,7 @@ use lib.ListN.{replicate}
 use Rattle.bits.specs.Bits.{leAt}
 use Rattle.findings.specs.Findings.{finding, when, only, bytesOf}
 use Rattle.book.specs.Book.{Bkey, is}
-use Rattle.fields.specs.CheckKeyFields.{hasRow, sizeZero, snapshotZero, minimumValue, accountingPositionBytes, accountingKind, replicasEnd, accountingFields, someNonzero, someNotRising, replicasEntryRefused, countersBad, checkAccountingKey, backpointersStart, allocV4Bytes, checkAllocV4Value, accountingJunk, foreignType, checkPosition, checkKeyFields}
+use Rattle.fields.specs.CheckKeyFields.{hasRow, sizeZero, snapshotZero, minimumValue, accountingPositionBytes, accountingKind, replicasEnd, accountingFields, someNonzero, someNotRising, replicasEntryRefused, countersBad, checkAccountingKey, backpointersStart, allocV4Bytes, checkAllocV4Value, accountingJunk, checkPosition, checkKeyFields}
 
 zeros : ℕ → List ℕ
 zeros n = replicate n 0
@@ -30,7 +30,7 @@ keys =
 
 examples : map (checkKeyFields 7) keys ≡
     (finding 12 7 0 ∷ []) ∷ [] ∷ (finding 12 7 0 ∷ []) ∷ (finding 12 7 0 ∷ []) ∷ [] ∷ [] ∷ []
-unfolding zeros pointer alloc accounting keys leAt bytesOf when only is hasRow sizeZero snapshotZero minimumValue accountingPositionBytes accountingKind replicasEnd accountingFields someNonzero someNotRising replicasEntryRefused countersBad checkAccountingKey backpointersStart allocV4Bytes checkAllocV4Value accountingJunk foreignType checkPosition checkKeyFields
+unfolding zeros pointer alloc accounting keys leAt bytesOf when only is hasRow sizeZero snapshotZero minimumValue accountingPositionBytes accountingKind replicasEnd accountingFields someNonzero someNotRising replicasEntryRefused countersBad checkAccountingKey backpointersStart allocV4Bytes checkAllocV4Value accountingJunk checkPosition checkKeyFields
 examples = refl
 
 -- values of 0, 7, 8, 31, 32, 33 and 2,047 bytes

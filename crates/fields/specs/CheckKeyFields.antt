@@ -1,4 +1,5 @@
--- The rule `check_key_fields` (document 01, kinds 3 to 22) and the functions that it calls. Subject is the key's index, object 0.
+-- The rule `check_key_fields` (document 01, kinds 3 to 21) and the functions that it calls. Subject is the key's index,
+-- object 0. Kind 22 is given by `check_key_type` (document 02, ticket 4).
 use Prim.Native.Nat.{ℕ, _+_, _*_, _/_, _%_, _^_, min}
 use mathlib.Core.Bool.{Bool, false, cond, not, _&&_, _||_}
 use mathlib.Core.List.{List, [], _∷_, _++_}
@@ -130,13 +131,9 @@ levelBad value = leb 2 (length value) && ltb 4 (getD value 1 0)
 unfoldable pub xattrShort : List ℕ → Bool
 xattrShort value = leb 4 (length value) && ltb (length value) (4 + getD value 1 0 + leAt value 2 2)
 
--- a type that its btree does not hold: an xattr in dirents; logged operations in subvolume_children; an inode_v3 or a snapshot in backpointers
-unfoldable pub foreignType : Bkey → Bool
-foreignType k = is 2 11 k || ((is 19 32 k || is 19 33 k) || (is 13 29 k || is 13 22 k))
-
 -- 13 inode_pos_inode_nonzero, 14 subvol_pos_bad, 15 snapshot_pos_bad, 16 reflink_v_pos_bad, 17 reflink_p_front_pad_bad,
 -- 18 inode_alloc_cursor_inode_bad, 19 snapshot_tree_pos_bad, 6 accounting_key_junk_at_end, 20 backpointer_level_bad,
--- 21 xattr_val_size_too_small, 22 bkey_invalid_type_for_btree
+-- 21 xattr_val_size_too_small
 unfoldable pub checkPosition : ℕ → Bkey → List Finding
 checkPosition i k =
     when (is 1 29 k && not (eqb (k .inode) 0)) (finding 13 i 0)
@@ -148,8 +145,7 @@ checkPosition i k =
     ++ (when (is 15 31 k && badId k) (finding 19 i 0)
     ++ (when (is 20 34 k && accountingJunk k) (finding 6 i 0)
     ++ (when (is 13 28 k && levelBad (k .value)) (finding 20 i 0)
-    ++ (when (is 3 11 k && xattrShort (k .value)) (finding 21 i 0)
-    ++ when (foreignType k) (finding 22 i 0))))))))))
+    ++ when (is 3 11 k && xattrShort (k .value)) (finding 21 i 0)))))))))
 
 -- 3 bkey_size_nonzero, 4 bkey_snapshot_nonzero, 5 bkey_val_size_too_small, and the parts above
 unfoldable pub checkKeyFields : ℕ → Bkey → List Finding

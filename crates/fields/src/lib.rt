@@ -1,4 +1,4 @@
-// The rules on one key's device and fields: kinds 1 to 22. A key is its head and the bytes of its value, and `i` is its index.
+// The rules on one key's device and fields: kinds 1 to 21. A key is its head and the bytes of its value, and `i` is its index.
 ghost use mathlib.Core.Path.{_≡_};
 ghost use mathlib.Core.Bool.{cond};
 ghost use mathlib.Core.List.{[]};
@@ -544,17 +544,11 @@ fn position_kind(h: KeyHead, value: &[u8]) -> u8
         0x1422 => kind_if(accounting_junk(h), 6),
         0x0d1c => kind_if(level_bad(value), 20),
         0x030b => kind_if(xattr_short(value), 21),
-        // an xattr in dirents, logged operations in subvolume_children, an inode_v3 and a snapshot in backpointers
-        0x020b => 22,
-        0x1320 => 22,
-        0x1321 => 22,
-        0x0d1d => 22,
-        0x0d16 => 22,
         _ => 0,
     }
 }
 
-// Kinds 13 to 22, and 6 for the kinds btree and snapshot of accounting keys.
+// Kinds 13 to 21, and 6 for the kinds btree and snapshot of accounting keys.
 fn check_position(
     h: KeyHead,
     value: &[u8],
@@ -571,7 +565,7 @@ fn check_position(
     findings::emit_if(out, counts, n, kind != 0, kind, i, 0)
 }
 
-// Kinds 3 to 22: what a key's own fields may not hold.
+// Kinds 3 to 21: what a key's own fields may not hold.
 pub fn check_key_fields(
     h: KeyHead,
     value: &[u8],

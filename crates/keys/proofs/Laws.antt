@@ -14,9 +14,8 @@ use Rattle.book.specs.Walk.{Opened, KeysFit, frontOf}
 use Rattle.book.proofs.Walk.{parts, step, value-part}
 use Rattle.walk.proofs.Keys.{keys-none}
 use Rattle.keys.specs.declared.Present.{Present}
-use Rattle.keys.specs.KeyFindings.{keyFindings}
+use Rattle.keys.specs.KeyFindings.{keyRules, keyFindings}
 use Rattle.keys.specs.Present.{withBtree, presentWith}
-use Rattle.keys.specs.Steps.{keyRules}
 
 -- three rules, the second and the third in what the ones before leave of the buffer
 pub three-lent : {o : Sink} {o₁ ys zs c₁ c₂ c₃ : List ℕ} {fs gs hs : List Finding} (s t a b r : ℕ) → s ≡ start (length o₁) a → t ≡ start (length (back o₁ s ys)) (a + b)
@@ -24,10 +23,20 @@ pub three-lent : {o : Sink} {o₁ ys zs c₁ c₂ c₃ : List ℕ} {fs gs hs : L
     → Found o (fs ++ (gs ++ hs)) (a + b + r) (sink (back (back o₁ s ys) t zs) c₃)
 three-lent {fs = fs} {gs = gs} {hs = hs} s t a b r from from₂ f g h = found-as (append-assoc fs gs hs) (more-lent t (a + b) r from₂ (more-lent s a b from f g) h)
 
+-- and a fourth
+pub four-lent : {o : Sink} {o₁ ys zs us c₁ c₂ c₃ c₄ : List ℕ} {es fs gs hs : List Finding} (s t u a b c r : ℕ)
+    → s ≡ start (length o₁) a → t ≡ start (length (back o₁ s ys)) (a + b) → u ≡ start (length (back (back o₁ s ys) t zs)) (a + b + c)
+    → Found o es a (sink o₁ c₁) → Found (sink (part o₁ s) c₁) fs b (sink ys c₂) → Found (sink (part (back o₁ s ys) t) c₂) gs c (sink zs c₃)
+    → Found (sink (part (back (back o₁ s ys) t zs) u) c₃) hs r (sink us c₄)
+    → Found o (es ++ (fs ++ (gs ++ hs))) (a + b + c + r) (sink (back (back (back o₁ s ys) t zs) u us) c₄)
+four-lent {es = es} {fs = fs} {gs = gs} {hs = hs} s t u a b c r from from₂ from₃ e f g h =
+    found-as (append-assoc es (fs ++ gs) hs ∙ ap (λ (l : List Finding). es ++ l) (append-assoc fs gs hs))
+    (more-lent u (a + b + c) r from₃ (three-lent s t a b c from from₂ e f g) h)
+
 -- the key at byte p, by its head and the part of the book that is lent as its value
 pub key-judged : {s : List ℕ} {h : Header} {at : Places} → Opened s h at → (p i : ℕ) {k : KeyHead} → k ≡ keyHead s p
     → keyRules (h .device) (h .version) i (bkey k (take (k .start + k .len - k .start) (drop (k .start) s))) ≡ keyFindings (bookOf s) i (keyOf s (keyHead s p))
-unfolding keyRules keyFindings
+unfolding keyFindings
 key-judged {s} {h} o p i e =
     ap (λ (k : KeyHead). keyRules (h .device) (h .version) i (bkey k (take (k .start + k .len - k .start) (drop (k .start) s)))) e
     ∙ ap (λ (v : List ℕ). keyRules (h .device) (h .version) i (bkey (keyHead s p) v)) (value-part s (keyHead s p))

@@ -2,27 +2,28 @@
 use Prim.Native.Nat.{ℕ, _+_, _<_}
 use mathlib.Core.Path.{_≡_, refl, sym, _∙_}
 use mathlib.Core.Bool.{Bool, true, false, not, _&&_, _||_, and-false}
-use mathlib.Core.List.{List, [], _++_}
-use native.Mathlib.Omega.{arith}
-use lib.ListN.{length, getD}
+use mathlib.Core.List.{List, [], _∷_, _++_}
+use lib.ListN.{getD}
 use lib.Dec.{eqb}
-use borrow.Author.Tests.{eqb-true, le-ltb, not-true, not-false}
+use borrow.Author.Tests.{eqb-true, not-true, not-false}
 use Rattle.bits.specs.Bits.{beAt}
-use Rattle.findings.specs.Findings.{Finding, finding, when, only}
+use Rattle.findings.specs.Findings.{Finding, finding, when}
 use Rattle.book.specs.declared.KeyFront.{KeyFront}
-use Rattle.book.specs.Book.{Bkey, is, keyHead, bookOf}
+use Rattle.book.specs.Book.{Bkey, keyHead, bookOf}
 use Rattle.walk.specs.Keys.{keyAt, AtKey}
 use Rattle.walk.proofs.Keys.{head-word}
 use Rattle.pairs.proofs.Order.{both-true}
 use Rattle.fields.specs.CheckKeyDevice.{elsewhere, checkKeyDevice}
-use Rattle.fields.specs.CheckKeyFields.{minimumValue, foreignType, checkPosition, checkKeyFields}
-use Rattle.fields.specs.Steps.{sizeBad}
+use Rattle.fields.specs.CheckKeyFields.{hasRow}
+use Rattle.fields.specs.Steps.{snapshotBad}
 use Rattle.fields.proofs.Laws.{size-may}
-use Rattle.states.specs.CheckStateWords.{checkStateWords}
-use Rattle.keys.specs.KeyFindings.{keyFindings}
-use Rattle.keys.specs.Steps.{byDevice, quiet, keyRules}
+use Rattle.types.specs.CheckKeyType.{checkKeyType}
+use Rattle.types.proofs.Laws.{set-anywhere}
+use Rattle.keys.specs.KeyFindings.{keyRules, keyFindings}
+use Rattle.keys.specs.Steps.{byDevice, quiet}
+use Rattle.keys.proofs.Others.{judged, fields-none, states-none}
 
--- ---- the three rules
+-- ---- the rules
 
 not-filed : (away a b c : Bool) (x y : Finding) → a || (b || c) ≡ false → when (away && (a || c)) x ++ when (away && b) y ≡ []
 unfolding when
@@ -42,52 +43,33 @@ or-more true b c e = refl
 or-more false true c e = refl
 or-more false false c e = e
 
+-- no row has this type
+notTyped : ℕ → List ℕ → Bool
+notTyped t [] = true
+notTyped t (b ∷ []) = true
+notTyped t (b ∷ u ∷ rows) = not (eqb u t) && notTyped t rows
+
+no-row : (b t : ℕ) (rows : List ℕ) → notTyped t rows ≡ true → hasRow rows b t ≡ false
+unfolding notTyped hasRow
+no-row b t [] e = refl
+no-row b t (c ∷ []) e = refl
+no-row b t (c ∷ u ∷ rows) e =
+    let both = both-true (not (eqb u t)) (notTyped t rows) e in
+    rw (not-true (eqb u t) (both .0), and-false (eqb c b), no-row b t rows (both .1)) refl
+
 module _ (k : Bkey) (set : k .keyType ≡ 25) where
-  -- a test of another type
-  not-is : (b t : ℕ) → eqb 25 t ≡ false → is b t k ≡ false
-  unfolding is
-  not-is b t e = rw (set, e) (and-false (eqb (k .btree) b))
+  not-judged : hasRow judged (k .btree) (k .keyType) ≡ false
+  unfolding notTyped judged
+  not-judged = rw set (no-row (k .btree) 25 judged refl)
 
-  states-none : (version i : ℕ) → checkStateWords version i k ≡ []
-  unfolding checkStateWords only
-  states-none version i = rw (not-is 9 22 refl, not-is 8 21 refl)
+  type-none : (i : ℕ) → checkKeyType i k ≡ []
+  unfolding checkKeyType when
+  type-none i = rw (set, set-anywhere (k .btree))
 
-  position-none : (i : ℕ) → checkPosition i k ≡ []
-  unfolding checkPosition foreignType when
-  position-none i =
-      rw (
-        not-is 1 29 refl,
-        not-is 8 21 refl,
-        not-is 9 22 refl,
-        not-is 7 16 refl,
-        not-is 0 15 refl,
-        not-is 17 35 refl,
-        not-is 15 31 refl,
-        not-is 20 34 refl,
-        not-is 13 28 refl,
-        not-is 3 11 refl,
-        not-is 2 11 refl,
-        not-is 19 32 refl,
-        not-is 19 33 refl,
-        not-is 13 29 refl,
-        not-is 13 22 refl,
-      )
-
-  fields-none : (i : ℕ) → eqb (k .size) 0 || eqb (k .btree) 11 ≡ true → eqb (k .snapshot) 0 ≡ true → checkKeyFields i k ≡ []
-  unfolding checkKeyFields minimumValue sizeBad when only
-  fields-none i size snapshot =
-      rw (
-        size-may k (or-more (eqb (k .size) 0) (eqb (k .btree) 0) (eqb (k .btree) 11) size),
-        snapshot,
-        not-is 13 28 refl,
-        not-is 9 22 refl,
-        not-is 8 21 refl,
-        le-ltb (length (k .value)) 0 (omega arith),
-        not-is 20 34 refl,
-        not-is 1 29 refl,
-        not-is 4 27 refl,
-        position-none i,
-      )
+-- a key without a snapshot
+no-snapshot : (k : Bkey) → eqb (k .snapshot) 0 ≡ true → snapshotBad k ≡ false
+unfolding snapshotBad
+no-snapshot k e = rw e refl
 
 rules-none : (device version i : ℕ) (k : Bkey) → quiet k ≡ true → keyRules device version i k ≡ []
 unfolding keyRules quiet
@@ -96,10 +78,17 @@ rules-none device version i k e =
     let front = both-true (eqb (k .keyType) 25) (not (byDevice k)) (parts .0) in
     let words = both-true (eqb (k .size) 0 || eqb (k .btree) 11) (eqb (k .snapshot) 0) (parts .1) in
     let set = eqb-true (k .keyType) 25 (front .0) in
-    rw (device-none device i k (not-true (byDevice k) (front .1)), fields-none k set i (words .0) (words .1), states-none k set version i)
+    let size = size-may k (or-more (eqb (k .size) 0) (eqb (k .btree) 0) (eqb (k .btree) 11) (words .0)) in
+    let none = not-judged k set in
+    rw (
+      device-none device i k (not-true (byDevice k) (front .1)),
+      type-none k set i,
+      fields-none k none i size (no-snapshot k (words .1)),
+      states-none k none version i,
+    )
 
 pub quiet-none : (s : List ℕ) (i : ℕ) (k : Bkey) → quiet k ≡ true → keyFindings (bookOf s) i k ≡ []
-unfolding keyFindings keyRules
+unfolding keyFindings
 quiet-none s i k e = rules-none (bookOf s .header .device) (bookOf s .header .version) i k e
 
 -- ---- the test, of the key in the book

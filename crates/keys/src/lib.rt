@@ -1,13 +1,13 @@
-// The three rules on each key, and the btrees of which a book has keys.
+// The rules on each key, and the btrees of which a book has keys.
 ghost use mathlib.Core.Path.{_≡_};
 ghost use Prim.Native.Nat.{_+_, _*_, _^_, _<_, _≤_};
 ghost use Rattle.findings.specs.Findings.{sink, Found, Added, each};
 ghost use Rattle.book.specs.Book.{bkey, bookOf};
 ghost use Rattle.book.specs.Walk.{Opened};
 ghost use Rattle.walk.specs.Keys.{keyAt, AtKey};
-ghost use Rattle.keys.specs.KeyFindings.{keyFindings};
+ghost use Rattle.keys.specs.KeyFindings.{keyRules, keyFindings};
 ghost use Rattle.keys.specs.Present.{withBtree, presentIn};
-ghost use Rattle.keys.specs.Steps.{keyRules, quiet};
+ghost use Rattle.keys.specs.Steps.{quiet};
 use book::Header;
 use book::KeyFront;
 use book::KeyHead;
@@ -15,7 +15,7 @@ use book::Places;
 use findings::start_of;
 use states::Version;
 
-// What the three rules on one key give: key number i, with this head and this value.
+// What the rules on one key give: key number i, with this head and this value.
 fn judge_key(
     k: KeyHead,
     value: &[u8],
@@ -26,16 +26,18 @@ fn judge_key(
     counts: &mut [u64],
 ) -> usize
     ensures found { λ r. ⌜ Found (sink (now (out .entry)) (now (counts .entry))) (keyRules device version i (bkey k (now (value .entry)))) r (sink (now (out .exit)) (now (counts .exit))) ⌝ }
-    ensures few { λ r. ⌜ r ≤ 14 ⌝ }
+    ensures few { λ r. ⌜ r ≤ 15 ⌝ }
 {
     let a = fields::check_key_device(k, device, i, out, counts);
     let from = start_of(out.len(), a);
-    let b = a + fields::check_key_fields(k, value, i, &mut out[from..], counts);
+    let b = a + types::check_key_type(k, i, &mut out[from..], counts);
     let from = start_of(out.len(), b);
-    b + states::check_state_words(Version(version), k, value, i, &mut out[from..], counts)
+    let c = b + fields::check_key_fields(k, value, i, &mut out[from..], counts);
+    let from = start_of(out.len(), c);
+    c + states::check_state_words(Version(version), k, value, i, &mut out[from..], counts)
 }
 
-// Whether the three rules say nothing of the key at byte p by what is read here: its front f, its size and its snapshot.
+// Whether these rules say nothing of the key at byte p by what is read here: its front f, its size and its snapshot.
 fn is_quiet(book: &[u8], p: usize, f: KeyFront) -> bool
     requires { ⌜ AtKey (now book) p f ⌝ }
     ensures { λ r. ⌜ r ≡ quiet (keyAt (now (book .entry)) p) ⌝ }
@@ -49,7 +51,7 @@ fn is_quiet(book: &[u8], p: usize, f: KeyFront) -> bool
     ((size == 0) | (f.btree == 11)) & (snapshot == 0)
 }
 
-// What the three rules give for the key at byte p, number i, whose front is f, after n findings.
+// What these rules give for the key at byte p, number i, whose front is f, after n findings.
 fn judge_at(
     book: &[u8],
     h: Header,
@@ -63,7 +65,7 @@ fn judge_at(
 ) -> usize
     requires { ⌜ Opened (now book) h at × AtKey (now book) p f × (n < 2 ^ 62) ⌝ }
     ensures found { λ r. ⌜ Added (sink (now (out .entry)) (now (counts .entry))) n (keyFindings (bookOf (now (book .entry))) i (keyAt (now (book .entry)) p)) r (sink (now (out .exit)) (now (counts .exit))) ⌝ }
-    ensures few { λ r. ⌜ r ≤ n + 14 ⌝ }
+    ensures few { λ r. ⌜ r ≤ n + 15 ⌝ }
 {
     if is_quiet(book, p, f) {
         return n;
@@ -106,7 +108,7 @@ fn with_btree(p: Present, b: u8) -> Present
     }
 }
 
-// What the three rules found at the keys, and the btrees of these: a rule across keys without keys of its btrees has nothing to find.
+// What these rules found at the keys, and the btrees of these: a rule across keys without keys of its btrees has nothing to find.
 pub struct Judged {
     pub count: usize,
     pub present: Present,
@@ -116,7 +118,7 @@ pub struct Judged {
 pub fn judge_keys(book: &[u8], h: Header, at: Places, out: &mut [u8], counts: &mut [u64]) -> Judged
     requires { ⌜ Opened (now book) h at ⌝ }
     ensures found { λ r. ⌜ Found (sink (now (out .entry)) (now (counts .entry))) (each (keyFindings (bookOf (now (book .entry)))) 0 (bookOf (now (book .entry)) .keys)) (r .count) (sink (now (out .exit)) (now (counts .exit))) ⌝ }
-    ensures few { λ r. ⌜ r .count ≤ h .keys * 14 ⌝ }
+    ensures few { λ r. ⌜ r .count ≤ h .keys * 15 ⌝ }
     ensures present { λ r. ⌜ r .present ≡ presentIn (bookOf (now (book .entry)) .keys) ⌝ }
 {
     let mut present = Present {

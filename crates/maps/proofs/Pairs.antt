@@ -65,13 +65,15 @@ module _ (which number v : ℕ) where
   pub not-for : (isFor which number v ≡ true → ⊥) → isFor which number v ≡ false
   not-for h = ⊎-elim (λ t. absurd (h t)) (λ t. t) (tested (isFor which number v))
 
+-- ---- what a test keeps of two lists, one after the other
+pub keep-append : {A : Type 0} (test : A → Bool) (xs ys : List A) → keep test (xs ++ ys) ≡ keep test xs ++ keep test ys
+unfolding keep
+keep-append test [] ys = refl
+keep-append {A} test (x ∷ xs) ys =
+    ⊎-elim (λ t. rw t (ap (λ (l : List A). x ∷ l) (keep-append test xs ys))) (λ t. rw t (keep-append test xs ys)) (tested (test x))
+
 -- ---- what a test keeps of a list of numbers
 module _ (test : ℕ → Bool) where
-  pub keep-append : (xs ys : List ℕ) → keep test (xs ++ ys) ≡ keep test xs ++ keep test ys
-  unfolding keep
-  keep-append [] ys = refl
-  keep-append (x ∷ xs) ys = ⊎-elim (λ t. rw t (ap (λ (l : List ℕ). x ∷ l) (keep-append xs ys))) (λ t. rw t (keep-append xs ys)) (tested (test x))
-
   count-cons : (t : Bool) (y x : ℕ) (xs : List ℕ) → count y (cond t (x ∷ xs) xs) ≡ cond t (cond (eqb y x) 1 0) 0 + count y xs
   unfolding count
   count-cons true y x xs = refl

@@ -13,7 +13,8 @@ use Rattle.book.specs.Book.{Bkey, Book, is}
 use Rattle.book.specs.KeyMaps.{mapOf, drawnFrom, parentsOf}
 use Rattle.book.specs.Words.{holds, parentWord, idOf}
 use Rattle.fields.specs.CheckKeyDevice.{elsewhere, checkKeyDevice}
-use Rattle.fields.specs.CheckKeyFields.{hasRow, sizeZero, snapshotZero, minimumValue, checkSnapshotPad, badId, foreignType, checkPosition, checkKeyFields}
+use Rattle.fields.specs.CheckKeyFields.{hasRow, sizeZero, snapshotZero, minimumValue, checkSnapshotPad, badId, checkPosition, checkKeyFields}
+use Rattle.types.specs.CheckKeyType.{keyTypesAnywhere, keyTypesAllowed, outside, foreignType, checkKeyType}
 use Rattle.states.specs.StateDistance.{bitsApart, nearer, stateDistance, snapStates}
 use Rattle.states.specs.CheckStateWords.{stateRequired, snapStateWord, snapshotState, checkStateWords}
 use Rattle.subvolumes.specs.SubvolumeStates.{hasSubvolState, unavailable, subvolumeStates}
@@ -27,7 +28,7 @@ use Rattle.buckets.specs.BucketGensAgainstAlloc.{isGens, bucketGensAgainstAlloc
 use Rattle.buckets.specs.FreeSpace.{heldRuns, gaps, freeSpace}
 use Rattle.forest.specs.Lists.{_∈_}
 use Rattle.forest.specs.Forest.{keysOf, snapshots, WellFormed, TrueParents, ForestBook, Sound, Absent}
-use Rattle.keys.specs.KeyFindings.{keyFindings}
+use Rattle.keys.specs.KeyFindings.{keyRules, keyFindings}
 use Rattle.rules.specs.Rules.{findingsOf}
 use Rattle.rules.proofs.Demand3.{demand-3}
 
@@ -144,7 +145,7 @@ rows drawn =
     []
 
 examples : (drawn : Bool) → map (λ (r : Row). findingsOf (r .0)) (rows drawn) ≡ map (λ (r : Row). r .1) (rows drawn)
-unfolding rows book leAt when only each keep has sort lookup insert insertAll collect is drawnFrom parentsOf elsewhere checkKeyDevice hasRow sizeZero snapshotZero minimumValue checkSnapshotPad badId foreignType checkPosition checkKeyFields bitsApart nearer stateDistance snapStates stateRequired snapStateWord snapshotState checkStateWords hasSubvolState unavailable subvolumeStates claims claimed counts claimFindings snapshotClaims hasSnapState snapshotStates mapOf oneMore rootVia rootWithin rootOf followedVia followed above holds idOf flagged flagIsWrong flagFindings snapshotSubvolFlags hasFsParent fsParents subvolumeChildren treeMap treeOfMap isThe isOther masterFindings treeFindings namesRoot wrongDepth badChild badSkip rootFindings backrefFindings childFindings skipFindings linkFindings snapshotLinks isGens bucketGensAgainstAlloc heldRuns gaps freeSpace keyFindings findingsOf
+unfolding rows book leAt when only each keep has sort lookup insert insertAll collect is drawnFrom parentsOf elsewhere checkKeyDevice hasRow sizeZero snapshotZero minimumValue checkSnapshotPad badId checkPosition checkKeyFields keyTypesAnywhere keyTypesAllowed outside foreignType checkKeyType bitsApart nearer stateDistance snapStates stateRequired snapStateWord snapshotState checkStateWords hasSubvolState unavailable subvolumeStates claims claimed counts claimFindings snapshotClaims hasSnapState snapshotStates mapOf oneMore rootVia rootWithin rootOf followedVia followed above holds idOf flagged flagIsWrong flagFindings snapshotSubvolFlags hasFsParent fsParents subvolumeChildren treeMap treeOfMap isThe isOther masterFindings treeFindings namesRoot wrongDepth badChild badSkip rootFindings backrefFindings childFindings skipFindings linkFindings snapshotLinks isGens bucketGensAgainstAlloc heldRuns gaps freeSpace keyRules keyFindings findingsOf
 examples true = refl
 examples false = refl
 

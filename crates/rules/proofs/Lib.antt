@@ -4,3 +4,4 @@ pub mod Examples
 mod DrawnRows
 pub mod Rows
 pub mod RuleKinds
+pub mod ForeignTypes

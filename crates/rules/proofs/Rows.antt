@@ -10,7 +10,7 @@ use Rattle.findings.specs.Findings.{when, only, each, bytesOf}
 use Rattle.pairs.specs.Pairs.{pair, insert, sort}
 use Rattle.book.specs.Maps.{lookup}
 use Rattle.book.specs.Book.{is}
-use Rattle.fields.specs.CheckKeyFields.{hasRow, sizeZero, snapshotZero, minimumValue, accountingPositionBytes, accountingKind, replicasEnd, accountingFields, someNonzero, someNotRising, replicasEntryRefused, countersBad, checkAccountingKey, backpointersStart, allocV4Bytes, checkAllocV4Value, accountingJunk, foreignType, checkPosition, checkKeyFields}
+use Rattle.fields.specs.CheckKeyFields.{hasRow, sizeZero, snapshotZero, minimumValue, accountingPositionBytes, accountingKind, replicasEnd, accountingFields, someNonzero, someNotRising, replicasEntryRefused, countersBad, checkAccountingKey, backpointersStart, allocV4Bytes, checkAllocV4Value, accountingJunk, checkPosition, checkKeyFields}
 use Rattle.states.specs.StateDistance.{bitsApart, nearer, stateDistance, subvolStates}
 use Rattle.states.specs.CheckStateWords.{stateRequired, subvolStateUnset, subvolumeWord, subvolumeState, checkStateWords}
 use Rattle.parents.specs.Roots.{oneMore, rootVia, rootWithin, rootOf}
@@ -78,7 +78,7 @@ map-both f [] b = refl
 map-both f (r ∷ a) b = ap (λ (l : List (List ℕ)). f r ∷ l) (map-both f a b)
 
 marked-hold : map (λ (r : Row). r .given) marked ≡ map (λ (r : Row). r .said) marked
-unfolding marked leAt when only each bytesOf pair insert sort lookup is hasRow sizeZero snapshotZero minimumValue accountingPositionBytes accountingKind replicasEnd accountingFields someNonzero someNotRising replicasEntryRefused countersBad checkAccountingKey backpointersStart allocV4Bytes checkAllocV4Value accountingJunk foreignType checkPosition checkKeyFields bitsApart nearer stateDistance subvolStates stateRequired subvolStateUnset subvolumeWord subvolumeState checkStateWords oneMore rootVia rootWithin rootOf noRun isFree allocRange usedBuckets firstOr setFindings runFindings heldRuns gaps gapFindings freeSpace kinds numbers word subvolume stateKinds allocV4Kinds onePointer replicas hole flat
+unfolding marked leAt when only each bytesOf pair insert sort lookup is hasRow sizeZero snapshotZero minimumValue accountingPositionBytes accountingKind replicasEnd accountingFields someNonzero someNotRising replicasEntryRefused countersBad checkAccountingKey backpointersStart allocV4Bytes checkAllocV4Value accountingJunk checkPosition checkKeyFields bitsApart nearer stateDistance subvolStates stateRequired subvolStateUnset subvolumeWord subvolumeState checkStateWords oneMore rootVia rootWithin rootOf noRun isFree allocRange usedBuckets firstOr setFindings runFindings heldRuns gaps gapFindings freeSpace kinds numbers word subvolume stateKinds allocV4Kinds onePointer replicas hole flat
 marked-hold = rw (most-links, one-link-more)
 
 drawn-hold : map (λ (r : Row). r .given) drawnMarked ≡ map (λ (r : Row). r .said) drawnMarked

@@ -11,6 +11,7 @@ use Rattle.pairs.specs.Pairs.{has}
 use Rattle.book.specs.Book.{Bkey, Book}
 use Rattle.fields.specs.CheckKeyDevice.{checkKeyDevice}
 use Rattle.fields.specs.CheckKeyFields.{checkKeyFields, checkAccountingKey, checkInodeV3Word, checkSnapshotPad, checkAllocV4Value, checkPosition}
+use Rattle.types.specs.CheckKeyType.{checkKeyType}
 use Rattle.states.specs.CheckStateWords.{checkStateWords, snapshotState, subvolumeState, subvolumeWord}
 use Rattle.subvolumes.specs.SubvolumeStates.{subvolumeStates, subvolumeFindings}
 use Rattle.claims.specs.SnapshotClaims.{snapshotClaims, claimFindings}
@@ -21,7 +22,7 @@ use Rattle.links.specs.SnapshotLinks.{snapshotLinks, treeFindings, masterFindin
 use Rattle.buckets.specs.BucketGensAgainstAlloc.{bucketGensAgainstAlloc, gensOfKey, genAt, uncovered}
 use Rattle.buckets.specs.FreeSpace.{freeSpace, runFindings, setFindings, isFree, gapFindings}
 use Rattle.forest.specs.Lists.{_∈_}
-use Rattle.keys.specs.KeyFindings.{keyFindings}
+use Rattle.keys.specs.KeyFindings.{keyRules, keyFindings}
 use Rattle.rules.specs.Rules.{findingsOf}
 use Rattle.rules.specs.Kinds.{Within, Kinds, keyKinds, linkKinds, kindsOf, listOf}
 
@@ -73,9 +74,23 @@ gap-kinds at [] to = search within
 gap-kinds at (x ∷ xs) to =
     within-append (when (ltb at (x .0)) (finding 50 at (x .0))) _ (search within) (within-append (when (isFree (x .1)) (finding 49 (x .0) 0)) _ (search within) (gap-kinds (suc (x .0)) xs to))
 
+-- the rules on one key but that on types
+pub device-kinds : (device i : ℕ) (k : Bkey) → Within (1 ∷ 2 ∷ []) (checkKeyDevice device i k)
+unfolding has checkKeyDevice
+device-kinds device i k = search within depth 24
+
+pub field-kinds : (i : ℕ) (k : Bkey)
+    → Within (3 ∷ 4 ∷ 5 ∷ 6 ∷ 7 ∷ 8 ∷ 9 ∷ 10 ∷ 11 ∷ 12 ∷ 13 ∷ 14 ∷ 15 ∷ 16 ∷ 17 ∷ 18 ∷ 19 ∷ 20 ∷ 21 ∷ []) (checkKeyFields i k)
+unfolding has checkKeyFields checkAccountingKey checkInodeV3Word checkSnapshotPad checkAllocV4Value checkPosition
+field-kinds i k = search within depth 24
+
+pub word-kinds : (version i : ℕ) (k : Bkey) → Within (23 ∷ 24 ∷ 25 ∷ 26 ∷ 27 ∷ 28 ∷ []) (checkStateWords version i k)
+unfolding has checkStateWords snapshotState subvolumeState subvolumeWord
+word-kinds version i k = search within depth 24
+
 -- the rules
 pub key-kinds : (b : Book) → Within keyKinds (each (keyFindings b) 0 (b .keys))
-unfolding has keyFindings checkKeyDevice checkKeyFields checkAccountingKey checkInodeV3Word checkSnapshotPad checkAllocV4Value checkPosition checkStateWords snapshotState subvolumeState subvolumeWord
+unfolding has keyFindings keyRules checkKeyDevice checkKeyType checkKeyFields checkAccountingKey checkInodeV3Word checkSnapshotPad checkAllocV4Value checkPosition checkStateWords snapshotState subvolumeState subvolumeWord
 key-kinds b = search within depth 24
 
 pub subvolume-kinds : (b : Book) → Within (29 ∷ 30 ∷ 31 ∷ []) (subvolumeStates b)

@@ -2,7 +2,7 @@
 //
 // A line that starts with `=` names what judges the lines after it, by the letter at its byte 2:
 //   r  a book: `accepted`, if it is; so too for a letter that is not here
-//   f  a key of device 0: `check_key_device`, `check_key_fields`
+//   f  a key of device 0: `check_key_device`, `check_key_type`, `check_key_fields`
 //   w  a key: `check_state_words`
 //   d  a book: `subvolume_states`, `snapshot_claims`, `snapshot_states`; then `unavailable` and those of the ids 0, 1, 2 and 4,294,967,295 that are
 //   s  a book: `snapshot_subvol_flags`, `subvolume_children`
@@ -50,6 +50,8 @@ fn judge_key(bytes: &[u8], s: Section)
         return;
     }
     let n = fields::check_key_device(h, 0, s.line, &mut out, &mut counts);
+    lines::show_findings(&out, n);
+    let n = types::check_key_type(h, s.line, &mut out, &mut counts);
     lines::show_findings(&out, n);
     let n = fields::check_key_fields(h, &bytes[28..], s.line, &mut out, &mut counts);
     lines::show_findings(&out, n);

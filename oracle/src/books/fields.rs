@@ -1,8 +1,10 @@
 //! Single keys of every kind that a rule judges, near the edges of the rules (kinds 1 to 28).
 
+use super::random::Random;
 use super::values::*;
 use super::world::World;
 use crate::layout::{Key, LONGEST_VALUE};
+use reference::{Published, Rules};
 
 pub type Maker = fn(&mut World) -> Key;
 
@@ -50,6 +52,11 @@ const PAIRS: [(u8, u8); 36] = [
     (14, 0),
     (14, 1),
 ];
+
+/// Types around the last that is named, and where a byte has another bit or a word of 64 bits ends.
+const EDGE_TYPES: [u8; 8] = [39, 40, 41, 63, 64, 65, 128, 255];
+/// Btrees for which the published table has no row.
+const UNLISTED: [u8; 8] = [29, 30, 31, 32, 63, 64, 128, 255];
 
 /// Kinds 3, 4, 5, 11, 15, 23, 24, 30, 33 to 36, 41 to 45.
 pub fn snapshot(w: &mut World) -> Key {
@@ -184,20 +191,42 @@ fn set(w: &mut World) -> Key {
     w.key(btree, T_SET, inode, offset, Vec::new())
 }
 
-/// Kind 22, at edges only; else a pair beside it.
+/// Kind 22, and types beside it; a third on another device, for kinds 1 and 2.
 fn misplaced(w: &mut World) -> Key {
-    let (btree, key_type) = match w.edge() {
-        true => w.r.pick(&[(DIRENTS, T_XATTR), (CHILDREN, 32), (CHILDREN, 33), (BACKPOINTERS, T_INODE), (BACKPOINTERS, T_SNAPSHOT)]),
-        false => w.r.pick(&[(DIRENTS, 10), (XATTRS, 10), (CHILDREN, 31), (CHILDREN, 34), (BACKPOINTERS, 23), (BACKPOINTERS, 21), (LRU, 22)]),
-    };
+    let (btree, key_type) = typed(w.r);
     let length = w.r.place(20);
     let value = w.r.bytes(length);
-    w.key(btree, key_type, w.device, 5, value)
+    let inode = if w.r.one_in(3) { w.device ^ 1 } else { w.device };
+    w.key(btree, key_type, inode, 5, value)
+}
+
+/// A btree with a row of the published table and a type of this row, of any row, of those that every btree holds, or at
+/// an edge; a pair to which the fields give kind 22 too; any pair; or a btree without a row.
+fn typed(r: &mut Random) -> (u8, u8) {
+    let rows = Published::key_types_allowed();
+    let ((btree, own), (_, of_any_row)) = (r.pick(rows), r.pick(rows));
+    let types = r.pick(&[own, of_any_row, Published::key_types_anywhere(), &EDGE_TYPES]);
+    let key_type = if types.is_empty() { r.next() as u8 } else { r.pick(types) };
+    match r.below(8) {
+        0 => r.pick(&OLD_FOREIGN),
+        1 => any_pair(r),
+        2 => (r.pick(&UNLISTED), key_type),
+        _ => (btree, key_type),
+    }
+}
+
+/// Any btree and type, in half of the cases one that has a name or one soon after.
+pub fn any_pair(r: &mut Random) -> (u8, u8) {
+    if r.one_in(2) {
+        (r.next() as u8, r.next() as u8)
+    } else {
+        (r.below(34) as u8, r.below(42) as u8)
+    }
 }
 
 /// A pair that a rule names, or any btree and type, with a value of any bytes.
 fn other(w: &mut World) -> Key {
-    let (btree, key_type) = if w.edge() || w.r.one_in(4) { w.r.pick(&PAIRS) } else { (w.r.below(34) as u8, w.r.below(42) as u8) };
+    let (btree, key_type) = if w.edge() || w.r.one_in(4) { w.r.pick(&PAIRS) } else { any_pair(w.r) };
     let length = if w.edge() { w.r.place(100) } else { w.r.place(20) };
     let value = w.r.bytes(length);
     let inode = w.r.pick(&[0, 0, 1, w.device]);

@@ -4,7 +4,7 @@
 use super::random::Random;
 use super::values::*;
 use super::world::World;
-use super::{damaged, drawn, mixed, runs};
+use super::{damaged, drawn, fields, mixed, runs};
 use crate::layout::{Book, Key, HEADER_BYTES, KEY_HEAD_BYTES, LONGEST_BOOK, LONGEST_VALUE};
 
 /// Lengths of values at which some rule changes, and the longest.
@@ -56,7 +56,7 @@ fn pool(r: &mut Random, count: usize) -> Vec<u32> {
 /// Any btree and type, with a value of zeros or of any bytes, of a length that some rule reads.
 fn any(w: &mut World, longest: usize) -> Key {
     let r = &mut *w.r;
-    let (btree, key_type) = if r.one_in(2) { (r.next() as u8, r.next() as u8) } else { (r.below(34) as u8, r.below(42) as u8) };
+    let (btree, key_type) = fields::any_pair(r);
     let length = r.pick(&LENGTHS).min(longest);
     let value = if r.one_in(2) { r.bytes(length) } else { vec![0; length] };
     let inode = r.pick(&[0, 0, 1, w.device]);

@@ -20,7 +20,9 @@ pub const LOGGED_OPS: u8 = 17;
 pub const RECONCILE_WORK: u8 = 18;
 pub const CHILDREN: u8 = 19;
 pub const ACCOUNTING: u8 = 20;
+pub const DAMAGE: u8 = 28;
 
+pub const T_EXTENT: u8 = 6;
 pub const T_XATTR: u8 = 11;
 pub const T_REFLINK_P: u8 = 15;
 pub const T_REFLINK_V: u8 = 16;
@@ -34,6 +36,9 @@ pub const T_BUCKET_GENS: u8 = 30;
 pub const T_TREE: u8 = 31;
 pub const T_ACCOUNTING: u8 = 34;
 pub const T_CURSOR: u8 = 35;
+
+/// Pairs of btree and type to which the rules on a key's fields give kind 22 too.
+pub const OLD_FOREIGN: [(u8, u8); 5] = [(2, 11), (13, 22), (13, 29), (19, 32), (19, 33)];
 
 /// Live, unlinked, deleted.
 pub const SUBVOLUME_STATES: [u32; 3] = [0x4ad5_447e, 0x2d35_8e8f, 0x3c6b_2d4c];

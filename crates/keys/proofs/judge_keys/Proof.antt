@@ -18,7 +18,7 @@ use Rattle.keys.proofs.judge_keys.Tie as tie
 
 abbrev Inv-loop : tie.InvT-loop
 Inv-loop book h at out₀ counts₀ present₀ n₀ i₀ left₀ p₀ out counts present n i left p =
-    (n + left * 14 ≤ left₀ * 14) × (i + left ≤ left₀) × KeysFit book left p × Walk (keyFindings (bookOf book)) (bookOf book .keys) (sink out₀ counts₀) i (keysFrom book left p) n (sink out counts)
+    (n + left * 15 ≤ left₀ * 15) × (i + left ≤ left₀) × KeysFit book left p × Walk (keyFindings (bookOf book)) (bookOf book .keys) (sink out₀ counts₀) i (keysFrom book left p) n (sink out counts)
     × (presentWith present₀ (keysFrom book left₀ p₀) ≡ presentWith present (keysFrom book left p))
 
 abbrev μ-loop : tie.MeasureT-loop

@@ -1,0 +1,3 @@
+pub mod Masks
+pub mod ListedOnce
+pub mod Laws

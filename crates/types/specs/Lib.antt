@@ -1,0 +1,3 @@
+pub mod CheckKeyType
+pub mod ListedOnce
+pub mod Steps
