@@ -1,5 +1,5 @@
--- For this crate and those that link it: `Laws` has rules one after the other, `Others` keys that the rules on fields and
--- on state words do not judge.
+-- For this crate and those that link it: `Laws` has rules one after the other, `Foreign` keys of foreign types.
 pub mod Laws
-pub mod Others
+pub mod Foreign
+mod Others
 mod Quiet

@@ -1,12 +1,12 @@
 -- Kind 22 among the findings of a key: once where its type is foreign, with what the other rules found as it was.
 use Prim.Native.Nat.{ℕ, suc, _+_}
-use mathlib.Core.Path.{_≡_, refl, sym, ap, ap₂, _∙_}
-use mathlib.Core.Bool.{Bool, true, false, true≢false, not, cond, and-false, _&&_, _||_}
+use mathlib.Core.Path.{_≡_, refl, sym, ap, _∙_}
+use mathlib.Core.Bool.{Bool, true, false, true≢false, not, cond, _||_}
 use mathlib.Core.Logic.{⊎-elim}
 use mathlib.Core.List.{List, [], _∷_, _++_, append-nil, List·Memᴰ·head, List·Memᴰ·tail}
 use native.Mathlib.Omega.{arith}
 use lib.Dec.{eqb}
-use borrow.Author.Tests.{eqb-true, not-true}
+use borrow.Author.Tests.{eqb-true}
 use Rattle.findings.specs.Findings.{Finding, finding, when, keep, countOf}
 use Rattle.pairs.specs.Pairs.{has}
 use Rattle.pairs.proofs.Order.{tested, both-true}
@@ -14,12 +14,11 @@ use Rattle.maps.proofs.Pairs.{keep-append}
 use Rattle.book.specs.Maps.{lookup}
 use Rattle.book.specs.Book.{Bkey, is}
 use Rattle.fields.specs.CheckKeyDevice.{checkKeyDevice}
-use Rattle.fields.specs.CheckKeyFields.{hasRow, sizeZero, snapshotZero, checkKeyFields}
-use Rattle.fields.specs.Steps.{sizeBad, snapshotBad}
+use Rattle.fields.specs.CheckKeyFields.{checkKeyFields}
 use Rattle.types.specs.CheckKeyType.{keyTypesAnywhere, keyTypesAllowed, outside, foreignType, checkKeyType}
 use Rattle.states.specs.CheckStateWords.{checkStateWords}
 use Rattle.keys.specs.KeyFindings.{keyRules}
-use Rattle.keys.proofs.Others.{judged, fields-none, states-none}
+use Rattle.keys.proofs.Foreign.{fields-foreign, states-foreign, rules-turn}
 use Rattle.rules.specs.Kinds.{Within}
 use Rattle.rules.specs.ForeignTypes.{formerlyForeign, formerRules, others, TypedOnce}
 use Rattle.rules.proofs.RuleKinds.{device-kinds, field-kinds, word-kinds}
@@ -78,44 +77,13 @@ module _ (k : Bkey) where
       either _ _ (typed _ _ refl)
       (either _ _ (either _ _ (typed _ _ refl) (typed _ _ refl)) (either _ _ (typed _ _ refl) (typed _ _ refl)))
 
--- rows of btrees and types, none of them foreign
-noneForeign : List ℕ → Bool
-noneForeign [] = true
-noneForeign (b ∷ []) = true
-noneForeign (b ∷ t ∷ rows) = not (foreignType b t) && noneForeign rows
-
-module _ (k : Bkey) (foreign : foreignType (k .btree) (k .keyType) ≡ true) where
-  not-pair : (b t : ℕ) → foreignType b t ≡ false → eqb b (k .btree) && eqb t (k .keyType) ≡ false
-  not-pair b t e = ⊎-elim
-      (λ h.
-      let both = both-true (eqb b (k .btree)) (eqb t (k .keyType)) h in
-      absurd (true≢false (sym foreign ∙ sym (ap₂ foreignType (eqb-true b (k .btree) (both .0)) (eqb-true t (k .keyType) (both .1))) ∙ e)))
-      (λ h. h)
-      (tested (eqb b (k .btree) && eqb t (k .keyType)))
-
-  not-row : (rows : List ℕ) → noneForeign rows ≡ true → hasRow rows (k .btree) (k .keyType) ≡ false
-  unfolding noneForeign hasRow
-  not-row [] e = refl
-  not-row (b ∷ []) e = refl
-  not-row (b ∷ t ∷ rows) e =
-      let both = both-true (not (foreignType b t)) (noneForeign rows) e in
-      rw (not-pair b t (not-true (foreignType b t) (both .0)), not-row rows (both .1)) refl
-
-  -- the other rules on one key go by pairs of which none is foreign
-  none-after : (version i : ℕ) → checkKeyFields i k ++ checkStateWords version i k ≡ []
-  unfolding sizeBad snapshotBad noneForeign sizeZero snapshotZero judged foreignType outside lookup has keyTypesAllowed keyTypesAnywhere
-  none-after version i =
-      let none = not-row judged refl in
-      let size = ap (λ (row : Bool). not (eqb (k .size) 0) && row) (not-row sizeZero refl) ∙ and-false (not (eqb (k .size) 0)) in
-      let snapshot = ap (λ (row : Bool). not (eqb (k .snapshot) 0) && row) (not-row snapshotZero refl) ∙ and-false (not (eqb (k .snapshot) 0)) in
-      rw (fields-none k none i size snapshot, states-none k none version i)
-
 -- ---- kind 22 once, and the others as they were
 
 once : (device version i : ℕ) (k : Bkey) → countOf 22 (keyRules device version i k) ≡ cond (foreignType (k .btree) (k .keyType)) 1 0
-unfolding keyRules checkKeyType has
+unfolding checkKeyType has
 once device version i k =
     rw (
+      sym (rules-turn device version i k),
       count-append 22 (checkKeyDevice device i k) (checkKeyType i k ++ (checkKeyFields i k ++ checkStateWords version i k)),
       count-append 22 (checkKeyType i k) (checkKeyFields i k ++ checkStateWords version i k),
       count-append 22 (checkKeyFields i k) (checkStateWords version i k),
@@ -142,13 +110,14 @@ stays test ds ts fs os ss t o =
     )
 
 stay : (device version i : ℕ) (k : Bkey) → others 22 (keyRules device version i k) ≡ others 22 (formerRules device version i k)
-unfolding keyRules formerRules checkKeyType others
+unfolding formerRules checkKeyType others
 stay device version i k =
-    stays (λ (f : Finding). not (eqb (f .kind) 22)) (checkKeyDevice device i k) (checkKeyType i k) (checkKeyFields i k)
+    ap (others 22) (sym (rules-turn device version i k))
+    ∙ stays (λ (f : Finding). not (eqb (f .kind) 22)) (checkKeyDevice device i k) (checkKeyType i k) (checkKeyFields i k)
     (when (formerlyForeign k) (finding 22 i 0)) (checkStateWords version i k) (others-when (foreignType (k .btree) (k .keyType)) i)
     (others-when (formerlyForeign k) i)
 
 -- THE CLAIM
 pub typed-once : (device version i : ℕ) (k : Bkey) → TypedOnce device version i k
 typed-once device version i k =
-    record { overlap = overlap k; once = once device version i k; stay = stay device version i k; last = λ foreign. none-after k foreign version i }
+    record { overlap = overlap k; once = once device version i k; stay = stay device version i k; last = λ foreign. rw (fields-foreign k foreign i, states-foreign k foreign version i) }
