@@ -1,7 +1,7 @@
 //! What documents 01 and 02 state for a book: the answers of the three calls, with the published rules as the judge of the findings.
 use crate::layout::{Book, Refusal};
 use crate::library::{After, Answer, FINDING_BYTES};
-use crate::published::{self, Finding, Maps, Parents, Said};
+use crate::published::{Finding, Maps, Said};
 use crate::states;
 use std::collections::BTreeSet;
 
@@ -43,15 +43,15 @@ impl Change {
 
 impl Expected {
     pub fn of(bytes: &[u8]) -> Expected {
-        Expected::by(bytes, published::parents, Maps::judge)
+        Expected::by(bytes, Maps::of, Maps::judge)
     }
 
-    /// The same with parents, or with a judge, by another reading.
-    pub fn by(bytes: &[u8], parents: impl Fn(&Book) -> Parents, judge: impl Fn(&Maps) -> Said) -> Expected {
+    /// The same with maps, or with a judge, by another reading.
+    pub fn by(bytes: &[u8], maps: impl Fn(&Book) -> Maps, judge: impl Fn(&Maps) -> Said) -> Expected {
         match Book::decode(bytes) {
             Err(refusal) => Expected::Refused(refusal),
             Ok(book) => {
-                let maps = Box::new(Maps::over(&book, parents(&book)));
+                let maps = Box::new(maps(&book));
                 let said = judge(&maps);
                 let mut findings = said.findings();
                 name_states(&book, &mut findings);

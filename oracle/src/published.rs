@@ -38,6 +38,25 @@ fn drawn(keys: &[Key]) -> Parents {
     parents
 }
 
+/// The bits of an offset in btree 11 that number a bucket; the age of the bucket is above them.
+pub const BUCKET_BITS: u32 = 56;
+
+/// Document 02's ticket 5: the keys of btree 11 as `free_space` is fed them, the top byte of their offsets cleared.
+pub fn runs(book: &Book) -> Vec<Bkey> {
+    runs_by(book, |_, key| key.offset % (1 << BUCKET_BITS))
+}
+
+/// The same with another reading of their offsets.
+pub fn runs_by(book: &Book, read: impl Fn(&Book, &Key) -> u64) -> Vec<Bkey> {
+    let keys = book.keys.iter().filter(|key| key.btree == FREESPACE);
+    keys.map(|key| bkey(Key { offset: read(book, key), ..key.clone() })).collect()
+}
+
+fn bkey(k: Key) -> Bkey {
+    let pos = Bpos { inode: k.inode, offset: k.offset, snapshot: k.snapshot };
+    Bkey { key_type: k.key_type, size: k.size, version_hi: 0, version_lo: 0, pos, value: k.value }
+}
+
 /// Drops the problem of kind 22 that the fields of a key gave, where the ticket's own is at an index.
 pub fn once(problems: &mut Vec<Problem>, _: usize, at: usize) {
     let is_second = |i: &usize| problems[*i].kind == problems[at].kind;
@@ -59,6 +78,8 @@ pub struct Maps {
     keys: Vec<(u8, Bkey)>,
     /// The keys of each btree, in the order of the book. The snapshot_trees btree is there exactly if the book's mark is set.
     trees: Trees,
+    /// What `free_space` is fed.
+    runs: Vec<Bkey>,
 }
 
 /// What the rules said: their problems, how many there were after each key, and the unavailable subvolumes.
@@ -70,19 +91,12 @@ pub struct Said {
 
 impl Maps {
     pub fn of(book: &Book) -> Maps {
-        Maps::over(book, parents(book))
+        Maps::over(book, parents(book), runs(book))
     }
 
-    /// The same with parents that are given.
-    pub fn over(book: &Book, parents: Parents) -> Maps {
-        let keys: Vec<(u8, Bkey)> = book
-            .keys
-            .iter()
-            .map(|k| {
-                let pos = Bpos { inode: k.inode, offset: k.offset, snapshot: k.snapshot };
-                (k.btree, Bkey { key_type: k.key_type, size: k.size, version_hi: 0, version_lo: 0, pos, value: k.value.clone() })
-            })
-            .collect();
+    /// The same with parents and with runs that are given.
+    pub fn over(book: &Book, parents: Parents, runs: Vec<Bkey>) -> Maps {
+        let keys: Vec<(u8, Bkey)> = book.keys.iter().map(|k| (k.btree, bkey(k.clone()))).collect();
         let mut trees = Trees::new();
         if book.mark {
             trees.insert(TREES, Vec::new());
@@ -101,11 +115,12 @@ impl Maps {
             alloc: book.alloc.iter().copied().collect(),
             keys,
             trees,
+            runs,
         }
     }
 
-    /// The rules in document 01's order, with the two spots of document 02's ticket 4. This is what is timed as the
-    /// Rust rules' own time.
+    /// The rules in document 01's order, with the two spots of document 02's ticket 4, and `free_space` over the runs of
+    /// its ticket 5. This is what is timed as the Rust rules' own time.
     pub fn judge(&self) -> Said {
         self.judge_by(Published::is_foreign, once)
     }
@@ -140,8 +155,7 @@ impl Maps {
         Published::subvolume_children(&self.trees, &mut r);
         Published::snapshot_links(&self.trees, &self.parents, &self.subvolumes, &mut r);
         Published::bucket_gens_against_alloc(&self.trees, &self.gens, self.device, &mut r);
-        let runs = self.trees.get(&FREESPACE).map_or(&[][..], |keys| keys);
-        Published::free_space(runs, &self.alloc, self.device, &self.member, &mut r);
+        Published::free_space(&self.runs, &self.alloc, self.device, &self.member, &mut r);
         Said { report: r, after, unavailable }
     }
 

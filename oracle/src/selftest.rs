@@ -1,12 +1,12 @@
-//! Shows that a run can fail: one finding of the judge is changed, or drawn parents or foreign types are read by
-//! another rule, and each time the difference has to be seen and the book made small.
+//! Shows that a run can fail: one finding of the judge is changed, or drawn parents, foreign types or the offsets of free
+//! runs are read by another rule, and each time the difference has to be seen and the book made small.
 use crate::books::values::{DIRENTS, LRU, SNAPSHOTS, T_SNAPSHOT, XATTRS};
 use crate::books::{self, Mode};
 use crate::compare::{compare_with, Counts};
 use crate::expected::{Change, Expected};
 use crate::layout::{Book, Key};
 use crate::library::Areas;
-use crate::published::{self, once, Maps};
+use crate::published::{self, once, Maps, BUCKET_BITS};
 use crate::shrink;
 use crate::text;
 use reference::check::Problem;
@@ -53,6 +53,26 @@ const TYPE_READINGS: [Types; 9] = [
     ("kind 22 before the device's", foreign, foremost),
 ];
 
+/// Other readings of the offset of a free run.
+type Offsets = (&'static str, fn(&Book, &Key) -> u64);
+
+const OFFSET_READINGS: [Offsets; 7] = [
+    ("the whole offset is read", |_, run| run.offset),
+    ("57 bits of the offset are read", |_, run| run.offset % (1 << 57)),
+    ("55 bits of the offset are read", |_, run| run.offset % (1 << 55)),
+    ("the age is in the lowest byte", |_, run| run.offset >> 8),
+    ("the subtraction is before the cut", |_, run| {
+        let size = u64::from(run.size);
+        run.offset.checked_sub(size).map_or(bucket(run.offset), |start| bucket(start) + size)
+    }),
+    ("a run past the buckets is read whole", |book, run| if book.buckets < bucket(run.offset) { run.offset } else { bucket(run.offset) }),
+    ("a run of another device is read whole", |book, run| if run.inode == book.device { bucket(run.offset) } else { run.offset }),
+];
+
+fn bucket(offset: u64) -> u64 {
+    offset % (1 << BUCKET_BITS)
+}
+
 fn foreign(btree: u8, key_type: u8) -> bool {
     Published::is_foreign(btree, key_type)
 }
@@ -77,6 +97,7 @@ enum Wrong {
     Finding(Change, u8),
     Parents(&'static str, fn(&mut Vec<Key>)),
     Types(Types),
+    Offsets(Offsets),
 }
 
 /// A wrong judge, tried on the first book of these modes where it is wrong. Only books of so many keys or more are judged wrong.
@@ -97,7 +118,8 @@ pub fn run() -> bool {
     let of_types = TYPE_READINGS.map(|types| Case::of(&[Mode::Mixed], Wrong::Types(types)));
     let mut cases: Vec<Case> = Change::ALL.into_iter().flat_map(of_each_kind).collect();
     cases.extend(Change::ALL.into_iter().flat_map(in_long_books).chain(with_many_keys));
-    cases.extend(of_parents.into_iter().chain(of_types));
+    let of_offsets = OFFSET_READINGS.map(|offsets| Case::of(&[Mode::Runs], Wrong::Offsets(offsets)));
+    cases.extend(of_parents.into_iter().chain(of_types).chain(of_offsets));
     let unseen = cases.iter().filter(|case| !case.show()).count();
     println!("{} changes, {unseen} of them not seen", cases.len());
     unseen == 0
@@ -154,7 +176,7 @@ impl Wrong {
     fn name(self) -> String {
         match self {
             Wrong::Finding(change, kind) => format!("{} of kind {kind}", change.name()),
-            Wrong::Parents(name, _) | Wrong::Types((name, ..)) => name.to_string(),
+            Wrong::Parents(name, _) | Wrong::Types((name, ..)) | Wrong::Offsets((name, _)) => name.to_string(),
         }
     }
 
@@ -163,16 +185,20 @@ impl Wrong {
         let wrong = match self {
             Wrong::Finding(change, kind) => return right.change(change, kind).then_some(right),
             Wrong::Parents(_, read) => {
-                let parents = |book: &Book| {
-                    let mut book = book.clone();
-                    read(&mut book.keys);
-                    published::parents(&book)
+                let maps = |book: &Book| {
+                    let mut drawn = book.clone();
+                    read(&mut drawn.keys);
+                    Maps::over(book, published::parents(&drawn), published::runs(book))
                 };
-                Expected::by(bytes, parents, Maps::judge)
+                Expected::by(bytes, maps, Maps::judge)
             }
             Wrong::Types((_, is_foreign, settle)) => {
                 let judge = |maps: &Maps| maps.judge_by(is_foreign, settle);
-                Expected::by(bytes, published::parents, judge)
+                Expected::by(bytes, Maps::of, judge)
+            }
+            Wrong::Offsets((_, read)) => {
+                let maps = |book: &Book| Maps::over(book, published::parents(book), published::runs_by(book, read));
+                Expected::by(bytes, maps, Maps::judge)
             }
         };
         (wrong.findings() != right.findings()).then_some(wrong)

@@ -3,7 +3,7 @@ use crate::books::values::*;
 use crate::books::{self, Mode};
 use crate::layout::{Book, Key, HEADER_BYTES, KEY_HEAD_BYTES, LONGEST_BOOK};
 use crate::library;
-use crate::published::{self, Maps, Parents};
+use crate::published::{self, Maps, Parents, BUCKET_BITS};
 use std::hint::black_box;
 use std::time::{Duration, Instant};
 
@@ -24,6 +24,7 @@ const BATCH: Duration = Duration::from_micros(20);
 pub fn rows() -> Vec<(&'static str, Book)> {
     vec![
         ("37,000 free runs in no order", free_runs()),
+        ("37,000 free runs of all ages in no order", aged(free_runs())),
         ("13 chains of 1,000 snapshots", chains(13)),
         ("13 chains of 1,000 snapshots, drawn", without_table(chains(13))),
         ("15,000 keys at the foot of 1,024 links", foot()),
@@ -131,6 +132,12 @@ fn free_runs() -> Book {
     let count = 37_000;
     let run = |i: u64| Key { size: 4, ..key(FREESPACE, T_SET, 0, 4 * (i * 7_919 % count + 1), Vec::new()) };
     Book { buckets: 4 * count, keys: (0..count).map(run).collect(), ..empty() }
+}
+
+/// The same book, its keys of ages 0 to 255 in turn.
+fn aged(mut book: Book) -> Book {
+    book.keys.iter_mut().zip((0..=255).cycle()).for_each(|(key, age)| key.offset |= age << BUCKET_BITS);
+    book
 }
 
 /// Keys without a value, each of the btree and type that its place gives.

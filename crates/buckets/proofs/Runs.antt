@@ -1,7 +1,7 @@
 -- What the code computes of a run is what the rule says of it.
 use Prim.Native.Nat.{ℕ, zero, suc, _+_, _-_, _*_, _/_, _%_, _^_, _≤_, _<_, max}
 use mathlib.Core.Path.{_≡_, refl, sym, ap, ap₂, _∙_, subst}
-use mathlib.Core.Bool.{Bool, true, false, cond, not, _&&_, _||_}
+use mathlib.Core.Bool.{Bool, true, false, cond, not, _||_}
 use mathlib.Core.List.{List, [], _∷_, _++_}
 use mathlib.Core.Option.{Option, none, some}
 use native.Mathlib.Nat.{le-of-suc-le-suc}
@@ -18,13 +18,12 @@ use Rattle.book.specs.declared.Header.{Header}
 use Rattle.book.specs.declared.KeyHead.{KeyHead}
 use Rattle.book.specs.declared.AllocEntry.{AllocEntry}
 use Rattle.book.specs.declared.Entry.{Entry}
-use Rattle.book.specs.Book.{Bkey, Book, dataType, allocTable, allocFrom, entryAt, keyHead, keyEnd, keyOf, keysFrom, bookOf}
+use Rattle.book.specs.Book.{Bkey, Book, dataType, allocTable, allocFrom, entryAt, keyHead, keyEnd, bkey, keyOf, keysFrom, bookOf}
 use Rattle.book.specs.Walk.{maybeU8, allocEntryOf}
 use Rattle.walk.specs.Keys.{keyAt, gather}
-use Rattle.walk.proofs.Keys.{offset-lt}
 use Rattle.buckets.specs.declared.Used.{Used}
-use Rattle.buckets.specs.FreeSpace.{isRun, runStart, noRun, inUse, isFree, allocRange, usedBuckets, firstOr, setFindings, runFindings, heldRuns}
-use Rattle.buckets.specs.Steps.{noRunOf, runPair, heldPair, inUseOf, isFreeOf, usedOf, usedWith, Fair}
+use Rattle.buckets.specs.FreeSpace.{isRun, runEnd, noRun, heldRun, inUse, isFree, allocRange, usedBuckets, firstOr, setFindings, runFindings, heldRuns}
+use Rattle.buckets.specs.Steps.{runPair, inUseOf, isFreeOf, usedOf, usedWith, Fair}
 use Rattle.buckets.proofs.Tables.{table-step, table-none}
 
 -- ---- a run
@@ -34,62 +33,77 @@ or-first : (a b : Bool) → (a || b) ≡ false → a ≡ false
 or-first true b e = e
 or-first false b e = refl
 
-pub run-size : (h : Header) (k : KeyHead) → noRunOf h k ≡ false → k .size ≤ k .offset
-unfolding noRunOf
-run-size h k e = ltb-false (k .offset) (k .size) (or-first _ (not (eqb (k .inode) (h .device)) || ltb (h .buckets) (k .offset)) e)
+pub run-size : (h : Header) (k : Bkey) → noRun h k ≡ false → k .size ≤ runEnd k
+unfolding noRun
+run-size h k e = ltb-false (runEnd k) (k .size) (or-first _ (not (eqb (k .inode) (h .device)) || ltb (h .buckets) (runEnd k)) e)
 
-pub held-none : (h : Header) (k : KeyHead) → noRunOf h k ≡ true → heldPair h k ≡ []
-unfolding heldPair
+pub held-none : (h : Header) (k : Bkey) → noRun h k ≡ true → heldRun h k ≡ []
+unfolding heldRun
 held-none h k e = rw e
 
-pub held-one : (h : Header) (k : KeyHead) → noRunOf h k ≡ false → {a : ℕ} → a ≡ max (k .offset - k .size) (h .«first_bucket») → pair a (k .offset) ∷ [] ≡ heldPair h k
-unfolding heldPair
-held-one h k e a = rw (e, a)
+pub held-one : (h : Header) (k : Bkey) → noRun h k ≡ false → {a e : ℕ} → e ≡ runEnd k → a ≡ max (e - k .size) (h .«first_bucket») → pair a e ∷ [] ≡ heldRun h k
+unfolding heldRun
+held-one h k is e a = rw (is, a, e)
+
+-- by its head alone
+no-run-any : (h : Header) (k : KeyHead) (v w : List ℕ) → noRun h (bkey k v) ≡ noRun h (bkey k w)
+unfolding noRun
+no-run-any h k v w = refl
+
+held-any : (h : Header) (k : KeyHead) (v w : List ℕ) → heldRun h (bkey k v) ≡ heldRun h (bkey k w)
+unfolding heldRun noRun
+held-any h k v w = refl
 
 module _ (s : List ℕ) {h : Header} (header : bookOf s .header ≡ h) (k : KeyHead) where
-  no-run-is : noRunOf h k ≡ noRun (bookOf s) (keyOf s k)
-  unfolding noRunOf noRun
-  no-run-is = rw header
+  no-run-is : noRun (bookOf s .header) (keyOf s k) ≡ noRun h (bkey k [])
+  no-run-is = rw header (no-run-any h k _ [])
 
-  pub run-none : noRunOf h k ≡ true → finding 47 (k .offset) (k .size) ∷ [] ≡ runFindings (bookOf s) (keyOf s k)
+  pub run-none : {e : ℕ} → e ≡ runEnd (bkey k []) → noRun h (bkey k []) ≡ true → finding 47 e (k .size) ∷ [] ≡ runFindings (bookOf s) (keyOf s k)
   unfolding runFindings
-  run-none e = rw (sym no-run-is ∙ e)
+  run-none e not = rw (no-run-is ∙ not, e)
 
-  pub run-set : noRunOf h k ≡ false
-      → setFindings (h .«first_bucket») (k .offset - k .size) (usedBuckets (allocRange (k .offset - k .size) (k .offset) (bookOf s .alloc))) ≡ runFindings (bookOf s) (keyOf s k)
+  pub run-set : {e : ℕ} → e ≡ runEnd (bkey k []) → noRun h (bkey k []) ≡ false
+      → setFindings (h .«first_bucket») (e - k .size) (usedBuckets (allocRange (e - k .size) e (bookOf s .alloc))) ≡ runFindings (bookOf s) (keyOf s k)
   unfolding runFindings
-  run-set e = rw (sym no-run-is ∙ e, header)
+  run-set e is = rw (no-run-is ∙ is, header, e)
 
   -- the pair that it gives
-  pub run-pair : (p : ℕ) → k ≡ keyHead s p → isRun (keyAt s p) ≡ true → heldPair h k ≡ runPair (bookOf s) p (keyAt s p)
-  unfolding runPair heldPair
-  run-pair p head e = rw (no-run-is, head, header, e)
+  pub run-pair : (p : ℕ) → k ≡ keyHead s p → isRun (keyAt s p) ≡ true → heldRun h (bkey k []) ≡ runPair (bookOf s) p (keyAt s p)
+  unfolding runPair
+  run-pair p head e = rw (e, header) (held-any h k [] _ ∙ ap (λ (x : KeyHead). heldRun h (keyOf s x)) head)
 
 pub no-pair : (b : Book) (p : ℕ) (k : Bkey) → isRun k ≡ false → runPair b p k ≡ []
 unfolding runPair
 no-pair b p k e = rw e
 
 -- ---- the pairs of all runs
-held-by : (b : Bool) (x : ℕ) {xs ys : List ℕ} → xs ≡ ys → cond b (x ∷ []) [] ++ xs ≡ cond b (x ∷ ys) ys
-held-by true x e = ap (λ (l : List ℕ). x ∷ l) e
-held-by false x e = e
-
 pub held-all : (b : Book) (s : List ℕ) (n p : ℕ) → gather (runPair b) s n p ≡ heldRuns b (keysFrom s n p)
 unfolding gather runPair heldRuns keysFrom
 held-all b s zero p = refl
-held-all b s (suc n) p = held-by (isRun (keyAt s p) && not (noRun b (keyAt s p))) (pair (max (runStart (keyAt s p)) (b .header .«first_bucket»)) (keyAt s p .offset)) (held-all b s n (keyEnd s p))
+held-all b s (suc n) p = ap (λ (l : List ℕ). cond (isRun (keyAt s p)) (heldRun (b .header) (keyAt s p)) [] ++ l) (held-all b s n (keyEnd s p))
 
 -- none starts past both its end and the first bucket
-fair-by : (b : Bool) (first a e : ℕ) (ps : List ℕ) → e < 2 ^ 64 → a ≤ max first e → Fair first ps → Fair first (cond b (pair a e ∷ []) [] ++ ps)
+abbrev FairPair : ℕ → ℕ → Type 0
+FairPair first x = x / 2 ^ 64 ≤ max first (x % 2 ^ 64)
+
+fair-by : (first x : ℕ) (ps : List ℕ) → FairPair first x → Fair first ps → Fair first (x ∷ ps)
 unfolding Fair
-fair-by false first a e ps small h f k l = f k l
-fair-by true first a e ps small h f zero l = rw (pair-first a e small, pair-second a e small) h
-fair-by true first a e ps small h f (suc k) l = f k (le-of-suc-le-suc l)
+fair-by first x ps h f zero l = h
+fair-by first x ps h f (suc k) l = f k (le-of-suc-le-suc l)
+
+fair-pair : (first a e : ℕ) → e < 2 ^ 64 → a ≤ max first e → FairPair first (pair a e)
+fair-pair first a e small h = rw (pair-first a e small, pair-second a e small) h
+
+fair-held : (h : Header) (is absent : Bool) (k : Bkey) (ps : List ℕ) → Fair (h .«first_bucket») ps
+    → Fair (h .«first_bucket») (cond is (cond absent [] (pair (max (runEnd k - k .size) (h .«first_bucket»)) (runEnd k) ∷ [])) [] ++ ps)
+fair-held h false absent k ps f = f
+fair-held h true true k ps f = f
+fair-held h true false k ps f = fair-by (h .«first_bucket») _ ps (fair-pair (h .«first_bucket») _ (runEnd k) (omega arith) (omega arith)) f
 
 fair-all : (b : Book) (s : List ℕ) (n p : ℕ) → Fair (b .header .«first_bucket») (gather (runPair b) s n p)
-unfolding gather runPair
+unfolding gather runPair heldRun
 fair-all b s zero p = unfold Fair in λ k l. absurd (omega arith)
-fair-all b s (suc n) p = fair-by (isRun (keyAt s p) && not (noRun b (keyAt s p))) _ _ _ _ (offset-lt s p) (omega arith) (fair-all b s n (keyEnd s p))
+fair-all b s (suc n) p = fair-held (b .header) (isRun (keyAt s p)) (noRun (b .header) (keyAt s p)) (keyAt s p) _ (fair-all b s n (keyEnd s p))
 
 fair-sort : (first : ℕ) (ps : List ℕ) → Fair first ps → Fair first (sort ps)
 unfolding Fair

@@ -7,19 +7,30 @@ use lib.ListN.{length}
 use lib.Dec.{eqb, ltb, leb}
 use Rattle.findings.specs.Findings.{Finding, finding, when, only, each}
 use Rattle.pairs.specs.Pairs.{pair, sort}
+use Rattle.book.specs.declared.Header.{Header}
 use Rattle.book.specs.Book.{Bkey, Book, is}
 
--- a run of free buckets (btree 11, type 25): it ends at its offset and is size buckets long
+-- a run of free buckets (btree 11, type 25), as many as its size
 abbrev pub isRun : Bkey → Bool
 isRun k = is 11 25 k
 
--- where such a run starts
-abbrev pub runStart : Bkey → ℕ
-runStart k = k .offset - k .size
+-- the bits of its offset that number a bucket; those above them hold an age
+abbrev pub bucketBits : ℕ
+bucketBits = 56
 
--- a run that starts before bucket 0, is on another device, or ends past the device's buckets
-unfoldable pub noRun : Book → Bkey → Bool
-noRun b k = ltb (k .offset) (k .size) || (not (eqb (k .inode) (b .header .device)) || ltb (b .header .buckets) (k .offset))
+-- "For btree 11 the free-space rule reads the low 56 bits of the offset only, and names these in its findings"
+-- (document 02, ticket 5): where a run ends
+abbrev pub runEnd : Bkey → ℕ
+runEnd k = k .offset % 2 ^ bucketBits
+
+-- "Subtraction of the size is done on the 56-bit number": where it starts
+abbrev pub runStart : Bkey → ℕ
+runStart k = runEnd k - k .size
+
+-- a run that starts before bucket 0 ("a run longer than it still gives 47"), is on another device, or ends past the
+-- device's buckets
+unfoldable pub noRun : Header → Bkey → Bool
+noRun h k = ltb (runEnd k) (k .size) || (not (eqb (k .inode) (h .device)) || ltb (h .buckets) (runEnd k))
 
 -- a data type that is there and not 0: the bucket is in use
 unfoldable pub inUse : Option ℕ → Bool
@@ -56,14 +67,17 @@ setFindings first start used =
 -- 47 freespace_entry_for_nonexistent_bucket (run offset, size), or what the run's buckets give
 unfoldable pub runFindings : Book → Bkey → List Finding
 runFindings b k =
-    cond (noRun b k) (finding 47 (k .offset) (k .size) ∷ [])
-    (setFindings (b .header .«first_bucket») (runStart k) (usedBuckets (allocRange (runStart k) (k .offset) (b .alloc))))
+    cond (noRun (b .header) k) (finding 47 (runEnd k) (k .size) ∷ [])
+    (setFindings (b .header .«first_bucket») (runStart k) (usedBuckets (allocRange (runStart k) (runEnd k) (b .alloc))))
 
--- the runs as pairs of start, at least the first bucket, and end; runs of size 0 too
+-- a run as a pair of start, at least the first bucket, and end
+unfoldable pub heldRun : Header → Bkey → List ℕ
+heldRun h k = cond (noRun h k) [] (pair (max (runStart k) (h .«first_bucket»)) (runEnd k) ∷ [])
+
+-- the pairs of all runs, those of size 0 too
 unfoldable pub heldRuns : Book → List Bkey → List ℕ
 heldRuns b [] = []
-heldRuns b (k ∷ ks) =
-    cond (isRun k && not (noRun b k)) (pair (max (runStart k) (b .header .«first_bucket»)) (k .offset) ∷ heldRuns b ks) (heldRuns b ks)
+heldRuns b (k ∷ ks) = cond (isRun k) (heldRun (b .header) k) [] ++ heldRuns b ks
 
 -- the stretches from `at` up to the device's last bucket that no run of a sorted list holds
 unfoldable pub gaps : ℕ → List ℕ → ℕ → List (ℕ × ℕ)

@@ -1,15 +1,13 @@
 -- What only contracts of private functions cite.
 use Prim.Native.Nat.{ℕ, _+_, _-_, _*_, _/_, _%_, _^_, _≤_, _<_, min, max}
 use mathlib.Core.Path.{_≡_}
-use mathlib.Core.Bool.{Bool, false, cond, not, _&&_, _||_}
+use mathlib.Core.Bool.{Bool, false, cond, not, _&&_}
 use mathlib.Core.List.{List, [], _∷_, _++_}
 use mathlib.Core.Option.{Option}
 use lib.ListN.{length, getD}
 use lib.Dec.{eqb, ltb}
 use Rattle.findings.specs.Findings.{Finding, finding, when, only, each}
 use Rattle.pairs.specs.Pairs.{pair, has}
-use Rattle.book.specs.declared.Header.{Header}
-use Rattle.book.specs.declared.KeyHead.{KeyHead}
 use Rattle.book.specs.declared.AllocEntry.{AllocEntry}
 use Rattle.book.specs.declared.MaybeU8.{MaybeU8}
 use Rattle.book.specs.declared.MaybeU8.the-variants.{Is, Absent}
@@ -18,7 +16,7 @@ use Rattle.book.specs.Book.{Bkey, Book, allocFrom}
 use Rattle.buckets.specs.declared.Range.{Range}
 use Rattle.buckets.specs.declared.Used.{Used}
 use Rattle.buckets.specs.BucketGensAgainstAlloc.{isGens, gensOfKey}
-use Rattle.buckets.specs.FreeSpace.{isRun, runStart, noRun, usedBuckets, firstOr, allocRange, gapFindings}
+use Rattle.buckets.specs.FreeSpace.{isRun, heldRun, usedBuckets, firstOr, allocRange, gapFindings}
 
 -- what a recorded generation gives, by the one that is expected
 abbrev pub genOf : ℕ → ℕ → ℕ → List Finding
@@ -40,17 +38,9 @@ coverPair device p k = cond (isGens device k) (pair (k .offset) 0 ∷ []) []
 unfoldable pub notCovered : List ℕ → ℕ → ℕ → List Finding
 notCovered xs bucket generation = when (not (eqb generation 0) && not (has (pair (bucket / 256) 0) xs)) (finding 46 bucket generation)
 
--- `noRun` by a header and a key's head
-unfoldable pub noRunOf : Header → KeyHead → Bool
-noRunOf h k = ltb (k .offset) (k .size) || (not (eqb (k .inode) (h .device)) || ltb (h .buckets) (k .offset))
-
 -- the pair of start and end that a run gives
 unfoldable pub runPair : Book → ℕ → Bkey → List ℕ
-runPair b p k = cond (isRun k && not (noRun b k)) (pair (max (runStart k) (b .header .«first_bucket»)) (k .offset) ∷ []) []
-
--- the same by the head of a key that is a run
-unfoldable pub heldPair : Header → KeyHead → List ℕ
-heldPair h k = cond (not (noRunOf h k)) (pair (max (k .offset - k .size) (h .«first_bucket»)) (k .offset) ∷ []) []
+runPair b p k = cond (isRun k) (heldRun (b .header) k) []
 
 -- where the entries of an alloc table at byte p stand that are for the buckets from a up to e
 unfoldable pub rangeOf : ℕ → List (ℕ × Option ℕ) → ℕ → ℕ → Range

@@ -1,7 +1,7 @@
 // The rules on buckets: `bucket_gens_against_alloc` (kind 46) and `free_space` (kinds 47 to 50).
 ghost use mathlib.Core.Path.{_≡_};
 ghost use mathlib.Core.Bool.{cond};
-ghost use mathlib.Core.List.{_++_};
+ghost use mathlib.Core.List.{[], _++_};
 ghost use Prim.Native.Nat.{_+_, _-_, _*_, _^_, _<_, _≤_, min, max};
 ghost use lib.ListN.{length, take, set};
 ghost use Rattle.findings.specs.Findings.{sink, Found, Added, only, each};
@@ -12,6 +12,7 @@ ghost use Rattle.book.specs.Book.{
   gensFrom,
   allocTable,
   allocFrom,
+  bkey,
   keyOf,
   bookOf,
 };
@@ -21,6 +22,9 @@ ghost use Rattle.walk.specs.Keys.{keyAt, AtKey, gather};
 ghost use Rattle.buckets.specs.BucketGensAgainstAlloc.{orZero, isGens, genAt, gensOfKey, bucketGensAgainstAlloc};
 ghost use Rattle.buckets.specs.FreeSpace.{
   isRun,
+  runEnd,
+  noRun,
+  heldRun,
   setFindings,
   allocRange,
   usedBuckets,
@@ -35,8 +39,6 @@ ghost use Rattle.buckets.specs.Steps.{
   keyGens,
   coverPair,
   notCovered,
-  noRunOf,
-  heldPair,
   runPair,
   rangeOf,
   inUseOf,
@@ -377,24 +379,36 @@ fn choose(test: bool, a: u64, b: u64) -> u64
     if test { a } else { b }
 }
 
+// What an age of 1 adds to the offset of a run.
+const AGE_UNIT: u64 = 1 << 56;
+
+// Where the run with the head k ends: its offset without the age in its top byte.
+fn run_end(k: KeyHead) -> u64
+    ensures { λ r. ⌜ r ≡ runEnd (bkey k []) ⌝ }
+{
+    k.offset % AGE_UNIT
+}
+
 // Whether a key gives no run of the device: it starts before bucket 0, is on another device, or ends past the device's buckets.
 fn no_run(h: Header, k: KeyHead) -> bool
-    ensures { λ r. ⌜ r ≡ noRunOf h k ⌝ }
+    ensures { λ r. ⌜ r ≡ noRun h (bkey k []) ⌝ }
 {
-    (k.offset < (k.size as u64)) | ((k.inode != h.device) | (h.buckets < k.offset))
+    let end = run_end(k);
+    (end < (k.size as u64)) | ((k.inode != h.device) | (h.buckets < end))
 }
 
 // Puts the start and the end of the run with the head k behind the first n pairs, if it is one of the device, and returns their number with it.
 fn put_run(h: Header, k: KeyHead, work: &mut [u64], n: usize) -> usize
     requires { ⌜ 2 * n + 2 ≤ length (now work) ⌝ }
-    ensures put { λ r. ⌜ pairsOf (now (work .exit)) r ≡ pairsOf (now (work .entry)) n ++ heldPair h k ⌝ }
+    ensures put { λ r. ⌜ pairsOf (now (work .exit)) r ≡ pairsOf (now (work .entry)) n ++ heldRun h (bkey k []) ⌝ }
     ensures few { λ r. ⌜ r ≤ n + 1 ⌝ }
 {
     if no_run(h, k) {
         return n;
     }
-    let start = most(k.offset - (k.size as u64), h.first_bucket as u64);
-    pairs::put_pair(work, n, start, k.offset);
+    let end = run_end(k);
+    let start = most(end - (k.size as u64), h.first_bucket as u64);
+    pairs::put_pair(work, n, start, end);
     n + 1
 }
 
@@ -631,23 +645,13 @@ fn show_run(
     ensures added { λ r. ⌜ Added (sink (now (out .entry)) (now (counts .entry))) n (runFindings (bookOf (now (book .entry))) (keyOf (now (book .entry)) k)) (r .found) (sink (now (out .exit)) (now (counts .exit))) ⌝ }
     ensures few { λ r. ⌜ (r .found ≤ n + 1) × (r .near ≤ h .alloc) ⌝ }
 {
+    let end = run_end(k);
     let size = k.size as u64;
     if no_run(h, k) {
-        let found = emit(out, counts, n, 47, k.offset, size);
+        let found = emit(out, counts, n, 47, end, size);
         return Shown { found, near };
     }
-    show_set(
-        book,
-        h,
-        at,
-        marks,
-        k.offset - size,
-        k.offset,
-        out,
-        counts,
-        n,
-        near,
-    )
+    show_set(book, h, at, marks, end - size, end, out, counts, n, near)
 }
 
 // What the key at byte p with the front f gives, if it is a run: its findings after those counted, and its pair behind those counted.

@@ -64,7 +64,7 @@ module _ {A : Type 0} (word : Bkey → A) (s : List ℕ) where
   unfolding hold
   mapped-lookup x m l e = map-lookup (λ q. word (keyAt s q)) hold refl (λ q. refl) x l ∙ ap hold e ∙ word-place m
 
-each-mapped : {A B : Type 0} (f : B → List Finding) (h : A → B) (i : ℕ) (xs : List A) → each (λ _ e. f e) i (map h xs) ≡ each (λ _ e. f (h e)) i xs
+pub each-mapped : {A B : Type 0} (f : B → List Finding) (h : A → B) (i : ℕ) (xs : List A) → each (λ _ e. f e) i (map h xs) ≡ each (λ _ e. f (h e)) i xs
 unfolding each
 each-mapped f h i [] = refl
 each-mapped f h i (x ∷ xs) = ap (λ (l : List Finding). f (h x) ++ l) (each-mapped f h (suc i) xs)

@@ -1,5 +1,6 @@
--- Examples of free space and generations, by computing: a run that starts one below the first bucket, and the ends of bucket numbers.
-use Prim.Native.Nat.{ℕ, _-_, _^_}
+-- Examples of free space and generations, by computing: a run that starts one below the first bucket, ages of buckets, and
+-- the ends of bucket numbers.
+use Prim.Native.Nat.{ℕ, _+_, _-_, _*_, _^_}
 use mathlib.Core.Path.{_≡_, refl}
 use mathlib.Core.List.{List, [], _∷_, _++_, map}
 use mathlib.Core.Option.{Option, none, some}
@@ -9,7 +10,7 @@ use Rattle.pairs.specs.Pairs.{pair, insert, sort}
 use Rattle.book.specs.Maps.{lookup}
 use Rattle.book.specs.Book.{Bkey, Book, is}
 use Rattle.buckets.specs.BucketGensAgainstAlloc.{orZero, isGens, bucketOf, genAt, gensOfKey, covered, uncovered, bucketGensAgainstAlloc}
-use Rattle.buckets.specs.FreeSpace.{noRun, inUse, isFree, allocRange, usedBuckets, firstOr, setFindings, runFindings, heldRuns, gaps, gapFindings, freeSpace}
+use Rattle.buckets.specs.FreeSpace.{noRun, inUse, isFree, allocRange, usedBuckets, firstOr, setFindings, runFindings, heldRun, heldRuns, gaps, gapFindings, freeSpace}
 use Rattle.rules.specs.Rows.{hole}
 
 -- a run that ends at `end`, of `size` buckets
@@ -41,8 +42,19 @@ free : map freeSpace
     (finding 50 1 2 ∷ finding 49 2 0 ∷ []) ∷
     (finding 47 5 1 ∷ finding 47 2 3 ∷ []) ∷
     (finding 50 2 3 ∷ []) ∷ []
-unfolding run book hole when only each insert sort is pair noRun inUse isFree allocRange usedBuckets firstOr setFindings runFindings heldRuns gaps gapFindings freeSpace
+unfolding run book hole when only each insert sort is pair noRun inUse isFree allocRange usedBuckets firstOr setFindings runFindings heldRun heldRuns gaps gapFindings freeSpace
 free = refl
+
+-- with ages 1, 128 and 255: a run that holds all buckets, one that is longer than its 56 bits, one that ends past the
+-- buckets, one whose 56 bits are 0
+aged : map freeSpace
+    (book [] [] (run (2 ^ 56 + 4) 3 ∷ []) ∷
+    book [] [] (run (2 ^ 63 + 2) 3 ∷ run 4 3 ∷ []) ∷
+    book [] [] (run (255 * 2 ^ 56 + 5) 1 ∷ run 4 3 ∷ []) ∷
+    book [] [] (run (2 ^ 56) 0 ∷ []) ∷ [])
+    ≡ [] ∷ (finding 47 2 3 ∷ []) ∷ (finding 47 5 1 ∷ []) ∷ (finding 48 0 1 ∷ finding 50 1 4 ∷ []) ∷ []
+unfolding run book hole when only each insert sort is pair noRun allocRange usedBuckets firstOr setFindings runFindings heldRun heldRuns gaps gapFindings freeSpace
+aged = refl
 
 generations : map bucketGensAgainstAlloc
     (book [] [] (recorded 0 (0 ∷ 7 ∷ []) ∷ []) ∷

@@ -5,3 +5,4 @@ mod DrawnRows
 pub mod Rows
 pub mod RuleKinds
 pub mod ForeignTypes
+pub mod AgeBits

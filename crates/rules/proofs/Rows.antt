@@ -15,7 +15,7 @@ use Rattle.states.specs.StateDistance.{bitsApart, nearer, stateDistance, subvol
 use Rattle.states.specs.CheckStateWords.{stateRequired, subvolStateUnset, subvolumeWord, subvolumeState, checkStateWords}
 use Rattle.parents.specs.Roots.{oneMore, rootVia, rootWithin, rootOf}
 use Rattle.parents.proofs.Links.{link, link-to, root-more, root-full, root-here}
-use Rattle.buckets.specs.FreeSpace.{noRun, isFree, allocRange, usedBuckets, firstOr, setFindings, runFindings, heldRuns, gaps, gapFindings, freeSpace}
+use Rattle.buckets.specs.FreeSpace.{noRun, isFree, allocRange, usedBuckets, firstOr, setFindings, runFindings, heldRun, heldRuns, gaps, gapFindings, freeSpace}
 use Rattle.rules.specs.Rows.{Row, kinds, numbers, word, subvolume, stateKinds, allocV4Kinds, onePointer, replicas, line, lineRoot, hole, drawnRoot, ownRoot, flat, marked, drawnMarked, rows}
 use Rattle.rules.proofs.DrawnRows.{drawn-line, drawn-one}
 
@@ -78,7 +78,7 @@ map-both f [] b = refl
 map-both f (r ∷ a) b = ap (λ (l : List (List ℕ)). f r ∷ l) (map-both f a b)
 
 marked-hold : map (λ (r : Row). r .given) marked ≡ map (λ (r : Row). r .said) marked
-unfolding marked leAt when only each bytesOf pair insert sort lookup is hasRow sizeZero snapshotZero minimumValue accountingPositionBytes accountingKind replicasEnd accountingFields someNonzero someNotRising replicasEntryRefused countersBad checkAccountingKey backpointersStart allocV4Bytes checkAllocV4Value accountingJunk checkPosition checkKeyFields bitsApart nearer stateDistance subvolStates stateRequired subvolStateUnset subvolumeWord subvolumeState checkStateWords oneMore rootVia rootWithin rootOf noRun isFree allocRange usedBuckets firstOr setFindings runFindings heldRuns gaps gapFindings freeSpace kinds numbers word subvolume stateKinds allocV4Kinds onePointer replicas hole flat
+unfolding marked leAt when only each bytesOf pair insert sort lookup is hasRow sizeZero snapshotZero minimumValue accountingPositionBytes accountingKind replicasEnd accountingFields someNonzero someNotRising replicasEntryRefused countersBad checkAccountingKey backpointersStart allocV4Bytes checkAllocV4Value accountingJunk checkPosition checkKeyFields bitsApart nearer stateDistance subvolStates stateRequired subvolStateUnset subvolumeWord subvolumeState checkStateWords oneMore rootVia rootWithin rootOf noRun isFree allocRange usedBuckets firstOr setFindings runFindings heldRun heldRuns gaps gapFindings freeSpace kinds numbers word subvolume stateKinds allocV4Kinds onePointer replicas hole flat
 marked-hold = rw (most-links, one-link-more)
 
 drawn-hold : map (λ (r : Row). r .given) drawnMarked ≡ map (λ (r : Row). r .said) drawnMarked

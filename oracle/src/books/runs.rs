@@ -1,8 +1,12 @@
-//! Free runs, alloc entries and generations at every edge of a device's buckets (kinds 46 to 50).
+//! Free runs, with and without ages, alloc entries and generations at every edge of a device's buckets (kinds 46 to 50).
 
 use super::random::Random;
 use super::values::*;
 use crate::layout::{Book, Key};
+use crate::published::BUCKET_BITS;
+
+/// What the top byte of a run's offset holds.
+const AGES: [u64; 5] = [0, 1, 0x7f, 0x80, 0xff];
 
 pub fn book(r: &mut Random) -> Book {
     let mut book = Book { mark: r.one_in(2), version: r.pick(&VERSIONS), device: r.pick(&[0, 0, 1, 7, u64::MAX]), ..Book::default() };
@@ -25,6 +29,7 @@ pub fn add(r: &mut Random, book: &mut Book) {
         }
         _ => scatter(r, book),
     }
+    ages(r, book);
     if r.one_in(2) {
         generations(r, book);
     }
@@ -40,6 +45,7 @@ pub fn add_many(r: &mut Random, book: &mut Book, count: usize) {
     for _ in 0..r.place(count) {
         disturb(r, book);
     }
+    ages(r, book);
     for _ in 0..r.place(1 + count / 64) {
         generations(r, book);
     }
@@ -61,6 +67,18 @@ fn tiles(r: &mut Random, book: &mut Book, sorts: u64, pieces: u64) {
         at = end;
     }
     book.buckets = at;
+}
+
+/// Gives half of the keys of every other book an age.
+fn ages(r: &mut Random, book: &mut Book) {
+    if r.one_in(2) {
+        return;
+    }
+    for key in &mut book.keys {
+        if r.one_in(2) {
+            key.offset = key.offset % (1 << BUCKET_BITS) | r.pick(&AGES) << BUCKET_BITS;
+        }
+    }
 }
 
 /// A free run, a run over free buckets, buckets in use or without a type, or a hole (kind 50).
@@ -90,12 +108,13 @@ fn disturb(r: &mut Random, book: &mut Book) {
 /// Runs and alloc entries at any edges, in no order.
 fn scatter(r: &mut Random, book: &mut Book) {
     let first = u64::from(book.first_bucket);
+    let bits = r.pick(&[32, BUCKET_BITS, BUCKET_BITS + 1]);
     book.buckets = match r.below(8) {
         0 => first,
         1 => first.saturating_sub(1),
         2 => r.edge_64(),
-        3 => r.near(1 << 32),
-        4 => u64::MAX - r.below(3),
+        3 | 4 => r.near(1 << bits),
+        5 => u64::MAX - r.below(3),
         _ => first + r.below(12),
     };
     for _ in 0..r.below(10) {
@@ -114,7 +133,7 @@ fn run(device: u64, end: u64, size: u32) -> Key {
 fn bucket(r: &mut Random, book: &Book) -> u64 {
     let first = u64::from(book.first_bucket);
     let edge = match r.below(10) {
-        0 => r.pick(&[0, 1 << 32, u64::MAX]),
+        0 => r.pick(&[0, 1 << 32, 1 << BUCKET_BITS, u64::MAX]),
         1 | 2 => first,
         3 | 4 => book.buckets,
         5 => first + r.below(book.buckets.saturating_sub(first).saturating_add(1)),

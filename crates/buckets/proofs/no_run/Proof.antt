@@ -1,17 +1,17 @@
 -- `buckets::no_run` meets its contract.
-use mathlib.Core.Path.{refl}
-use Rattle.buckets.specs.Steps.{noRunOf}
+use Rattle.buckets.specs.FreeSpace.{noRun}
 use borrow.Author.Needs.{needs}
 use Rattle.buckets.proofs.no_run.Statement.{statement}
 use Rattle.buckets.proofs.no_run.Tie as tie
 
 returns : tie.Need-returns
-unfolding noRunOf
-returns c = refl
+unfolding noRun
+returns c = cc
 
 pub no-run-spec : {M : Type 1} → statement M
 no-run-spec =
     tie.close
     (tie.spec
+    (λ c κs. search needs)
     (λ c. search needs)
     returns)

@@ -10,24 +10,31 @@ use Rattle.buckets.proofs.show_run.Tie as tie
 
 returns : tie.Need-returns
 returns c =
-    (added-as (run-none (c .before .before .before .before .before .before .before .before .before .before .before .before .before .before .args .book .now) (parts (c .before .before .before .before .before .before .before .before .before .before .before .before .before .before .pre .0) .header) (c .before .before .before .before .before .before .before .before .before .before .before .before .before .before .args .k) (sym (c .before .before .before .before .before .before .before .before .no-run .ensures) ∙ c .before .before .before .before .before .before .before .if1 .taken)) (c .before .before .before .before .emit .ensures), omega (arith, c .before .before .before .before .emit .ensures .count, c .before .before .before .before .before .before .before .before .before .before .before .before .before .before .pre .3))
+    let a = c .before .before .before .before .before .before .before .before .before .before .before .before .before .before .before .args in
+    let pre = c .before .before .before .before .before .before .before .before .before .before .before .before .before .before .before .pre in
+    let absent = run-none (a .book .now) (parts (pre .0) .header) (a .k) (c .before .before .before .before .before .before .before .before .before .before .run-end .ensures) (sym (c .before .before .before .before .before .before .before .before .no-run .ensures) ∙ c .before .before .before .before .before .before .before .if1 .taken) in
+    (added-as absent (c .before .before .before .before .emit .ensures), omega (arith, c .before .before .before .before .emit .ensures .count, pre .3))
 
 returns-2 : tie.Need-returns-2
 returns-2 c =
-    (added-as (run-set (c .before .before .before .before .before .before .before .before .before .before .before .before .before .before .before .args .book .now) (parts (c .before .before .before .before .before .before .before .before .before .before .before .before .before .before .before .pre .0) .header) (c .before .before .before .before .before .before .before .before .before .before .before .before .before .before .before .args .k) (sym (c .before .before .before .before .before .before .before .before .before .no-run .ensures) ∙ c .before .before .before .before .before .before .before .before .if1 .left)) (c .before .before .before .before .show-set .ensures .0), omega arith)
+    let a = c .before .before .before .before .before .before .before .before .before .before .before .before .before .before .before .args in
+    let pre = c .before .before .before .before .before .before .before .before .before .before .before .before .before .before .before .pre in
+    let set = run-set (a .book .now) (parts (pre .0) .header) (a .k) (c .before .before .before .before .before .before .before .before .before .before .run-end .ensures) (sym (c .before .before .before .before .before .before .before .before .no-run .ensures) ∙ c .before .before .before .before .before .before .before .if1 .left) in
+    (added-as set (c .before .before .before .before .show-set .ensures .0), omega arith)
 
 pub show-run-spec : {M : Type 1} → statement M
 show-run-spec =
     tie.close
     (tie.spec
+    (λ c κs. search needs)
     (λ c. search needs)
     (λ c κs. search needs)
-    (λ c κs. omega (arith, c .before .before .before .before .before .before .before .before .before .pre .2))
+    (λ c κs. search needs)
     (λ c. search needs)
     (λ c. search needs)
     returns
-    (λ c. omega (arith, run-size _ _ (sym (c .before .before .no-run .ensures) ∙ c .before .if1 .left)))
-    (λ c κs. (c .before .before .before .before .before .before .before .before .before .before .pre .0, c .before .before .before .before .before .before .before .before .before .before .pre .1, omega arith, c .before .before .before .before .before .before .before .before .before .before .pre .2, c .before .before .before .before .before .before .before .before .before .before .pre .3))
+    (λ c. omega (arith, c .before .before .before .run-end .ensures, run-size _ _ (sym (c .before .no-run .ensures) ∙ c .if1 .left)))
+    (λ c κs. search needs)
     (λ c. search needs)
     (λ c. search needs)
     returns-2)
