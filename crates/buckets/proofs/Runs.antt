@@ -1,7 +1,8 @@
 -- What the code computes of a run is what the rule says of it.
 use Prim.Native.Nat.{ℕ, zero, suc, _+_, _-_, _*_, _/_, _%_, _^_, _≤_, _<_, max}
 use mathlib.Core.Path.{_≡_, refl, sym, ap, ap₂, _∙_, subst}
-use mathlib.Core.Bool.{Bool, true, false, cond, not, _||_}
+use mathlib.Core.Bool.{Bool, true, false, true≢false, cond, _||_, or-true}
+use mathlib.Core.Logic.{⊎-elim}
 use mathlib.Core.List.{List, [], _∷_, _++_}
 use mathlib.Core.Option.{Option, none, some}
 use native.Mathlib.Nat.{le-of-suc-le-suc}
@@ -12,7 +13,7 @@ use lib.Dec.{eqb, ltb}
 use borrow.Author.Tests.{ltb-false}
 use Rattle.findings.specs.Findings.{finding, when}
 use Rattle.pairs.specs.Pairs.{pair, sort}
-use Rattle.pairs.proofs.Order.{kept, sort-permuted}
+use Rattle.pairs.proofs.Order.{tested, kept, sort-permuted}
 use Rattle.pairs.proofs.Words.{pair-first, pair-second}
 use Rattle.book.specs.declared.Header.{Header}
 use Rattle.book.specs.declared.KeyHead.{KeyHead}
@@ -28,14 +29,31 @@ use Rattle.buckets.proofs.Tables.{table-step, table-none}
 
 -- ---- a run
 
--- a key that is one starts at bucket 0 or later
-or-first : (a b : Bool) → (a || b) ≡ false → a ≡ false
-or-first true b e = e
-or-first false b e = refl
+-- what follows from each answer of its three tests: it starts before bucket 0, is on the device, ends past its buckets
+module _ (h : Header) (k : Bkey) where
+  abbrev If : Type 0 → Bool → Bool → Bool → Type 0
+  If P early here past = ltb (runEnd k) (k .size) ≡ early → eqb (k .inode) (h .device) ≡ here → ltb (h .buckets) (runEnd k) ≡ past → P
 
+  pub by-tests : {P : Type 0} → If P true true true → If P true true false → If P true false true → If P true false false
+      → If P false true true → If P false true false → If P false false true → If P false false false → P
+  by-tests ttt ttf tft tff ftt ftf fft fff =
+      let here = tested (eqb (k .inode) (h .device)) in
+      let past = tested (ltb (h .buckets) (runEnd k)) in
+      ⊎-elim
+      (λ t. ⊎-elim (λ u. ⊎-elim (ttt t u) (ttf t u) past) (λ u. ⊎-elim (tft t u) (tff t u) past) here)
+      (λ t. ⊎-elim (λ u. ⊎-elim (ftt t u) (ftf t u) past) (λ u. ⊎-elim (fft t u) (fff t u) past) here)
+      (tested (ltb (runEnd k) (k .size)))
+
+-- a key that is one starts at bucket 0 or later
 pub run-size : (h : Header) (k : Bkey) → noRun h k ≡ false → k .size ≤ runEnd k
 unfolding noRun
-run-size h k e = ltb-false (runEnd k) (k .size) (or-first _ (not (eqb (k .inode) (h .device)) || ltb (h .buckets) (runEnd k)) e)
+run-size h k e =
+    let none : noRun h k ≡ true → k .size ≤ runEnd k = λ t. absurd (true≢false (sym t ∙ e)) in
+    let one = ltb-false (runEnd k) (k .size) in
+    by-tests h k
+    (λ x y z. none (simp (or-true, x, y, z))) (λ x y z. none (simp (or-true, x, y, z)))
+    (λ x y z. none (simp (or-true, x, y, z))) (λ x y z. none (simp (or-true, x, y, z)))
+    (λ x y z. one x) (λ x y z. one x) (λ x y z. one x) (λ x y z. one x)
 
 pub held-none : (h : Header) (k : Bkey) → noRun h k ≡ true → heldRun h k ≡ []
 unfolding heldRun
