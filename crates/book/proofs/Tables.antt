@@ -1,7 +1,7 @@
 -- Laws of the tables of an accepted book: what an entry's bytes say, and that the entries rise.
 use Prim.Native.Nat.{ℕ, zero, suc, _+_, _-_, _*_, _≤_, _<_}
 use mathlib.Core.Path.{_≡_, refl, sym, ap, _∙_}
-use mathlib.Core.List.{List}
+use mathlib.Core.List.{List, [], _∷_}
 use native.Mathlib.Nat.{zero-mul, add-zero, not-suc-le-zero, le-of-suc-le-suc}
 use native.Mathlib.Omega.{arith}
 use lib.ListN.{length, getD}
@@ -76,3 +76,13 @@ module _ {A : Type 0} (read : ℕ → A) (t : Table) (s : List ℕ) where
   unfolding tableFrom
   length-table zero p = refl
   length-table (suc n) p = ap suc (length-table n (p + t .size))
+
+  -- with an entry left, the entries are the one at p and those after it
+  pub entries-step : (n p : ℕ) → 0 < n → tableFrom read t s n p ≡ pairAt p ∷ tableFrom read t s (n - 1) (p + t .size)
+  unfolding tableFrom
+  entries-step zero p h = absurd (omega arith)
+  entries-step (suc n) p h = let less : suc n - 1 ≡ n = omega arith in rw less
+
+  pub entries-none : (p : ℕ) {n : ℕ} → n ≡ 0 → tableFrom read t s n p ≡ []
+  unfolding tableFrom
+  entries-none p e = rw e

@@ -19,9 +19,9 @@ use Rattle.book.specs.Book.{dataType, allocTable, allocFrom, entryAt, bookOf}
 use Rattle.book.specs.Walk.{Opened, allocEntryOf}
 use Rattle.book.proofs.Walk.{parts}
 use Rattle.walk.specs.Keys.{gather}
+use Rattle.book.proofs.Tables.{entries-step, entries-none}
 use Rattle.buckets.specs.FreeSpace.{isRun, isFree, allocRange, runFindings, gaps, gapFindings, freeSpace}
 use Rattle.buckets.specs.Steps.{runPair, entryFindings, gapOf, gapsFindings, Fair}
-use Rattle.buckets.proofs.Tables.{table-step, table-none}
 use Rattle.buckets.proofs.Runs.{free-is, held-all}
 
 -- ---- one gap, entry after entry
@@ -35,13 +35,13 @@ entry-next at to e xs =
 pub gap-next : (s : List ℕ) (at n p to : ℕ) → 0 < n → {e : AllocEntry} → e ≡ allocEntryOf (entryAt allocTable s p)
     → gapFindings at (allocFrom s n p) to ≡ entryFindings at e ++ gapFindings (e .bucket + 1) (allocFrom s (n - 1) (p + 10)) to
 gap-next s at n p to some e =
-    ap (λ (xs : List (ℕ × Option ℕ)). gapFindings at xs to) (table-step dataType allocTable s n p some)
+    ap (λ (xs : List (ℕ × Option ℕ)). gapFindings at xs to) (entries-step dataType allocTable s n p some)
     ∙ entry-next at to (entryAt allocTable s p) (allocFrom s (n - 1) (p + 10))
     ∙ ap (λ (e : AllocEntry). entryFindings at e ++ gapFindings (e .bucket + 1) (allocFrom s (n - 1) (p + 10)) to) (sym e)
 
 pub gap-end : (s : List ℕ) (at p to : ℕ) {n : ℕ} → n ≡ 0 → gapFindings at (allocFrom s n p) to ≡ when (ltb at to) (finding 50 at to) ++ []
 unfolding gapFindings
-gap-end s at p to e = rw (table-none dataType allocTable s p e, append-nil)
+gap-end s at p to e = rw (entries-none dataType allocTable s p e, append-nil)
 
 -- ---- gap after gap
 

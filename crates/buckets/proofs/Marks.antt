@@ -12,11 +12,10 @@ use lib.Dec.{ltb}
 use lib.Seq.{getD-set-same, getD-set-other}
 use borrow.Author.Tests.{lt-ltb, le-ltb, ltb-false}
 use Rattle.book.specs.Book.{dataType, allocTable, tableFrom, allocFrom}
-use Rattle.book.proofs.Tables.{length-table, pairAt}
+use Rattle.book.proofs.Tables.{length-table, pairAt, entries-none}
 use Rattle.buckets.specs.declared.Used.{Used}
 use Rattle.buckets.specs.FreeSpace.{inUse, usedBuckets, firstOr}
 use Rattle.buckets.specs.Steps.{usedOf, usedFrom, Marked}
-use Rattle.buckets.proofs.Tables.{table-none}
 
 -- the two numbers as the code has them
 abbrev used : ℕ → ℕ → Used
@@ -89,7 +88,7 @@ module _ (s : List ℕ) (start count : ℕ) where
   -- none are in use past the last entry
   pub used-end : (i : ℕ) → count ≤ i → used 0 0 ≡ usedFrom s start count i
   unfolding usedOf usedBuckets firstOr
-  used-end i h = rw (table-none dataType allocTable s (start + i * 10) {n = count - i} (omega arith))
+  used-end i h = rw (entries-none dataType allocTable s (start + i * 10) {n = count - i} (omega arith))
 
   -- the entries from number `low` on: n, and those after them
   split-at : (low n : ℕ) → low + n ≤ count

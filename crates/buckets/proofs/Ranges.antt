@@ -15,12 +15,11 @@ use Rattle.book.specs.declared.Places.{Places}
 use Rattle.book.specs.Maps.{lowerBound}
 use Rattle.book.specs.Book.{dataType, allocTable, tableFrom, allocFrom, entryAt, bookOf}
 use Rattle.book.specs.Walk.{Opened, Rising}
-use Rattle.book.proofs.Tables.{length-table}
+use Rattle.book.proofs.Tables.{length-table, entries-step, entries-none}
 use Rattle.book.proofs.Walk.{parts}
 use Rattle.buckets.specs.declared.Range.{Range}
 use Rattle.buckets.specs.FreeSpace.{allocRange}
 use Rattle.buckets.specs.Steps.{rangeOf, Below}
-use Rattle.buckets.proofs.Tables.{table-step, table-none}
 
 -- ---- the bound of a number in a map
 module _ {A : Type 0} where
@@ -90,7 +89,7 @@ module _ (s : List ℕ) where
         (ap (λ (l : List (ℕ × Option ℕ)). (x, dataType (entryAt allocTable s p .rest)) ∷ l) (more ∙ ap₂ (allocFrom s) count place) ∙ ap₂ (allocFrom s) all here))
         (λ u.
         let none-either : high ≡ 0 = rest-bound n p e r u in
-        rw (le-leb a x t, le-ltb x a t, le-ltb x e u) (more ∙ table-none dataType allocTable s ((p + 10) + low * 10) {n = high - low} (omega arith) ∙ sym (table-none dataType allocTable s (p + 0 * 10) {n = 0 - 0} (omega arith)))))
+        rw (le-leb a x t, le-ltb x a t, le-ltb x e u) (more ∙ entries-none dataType allocTable s ((p + 10) + low * 10) {n = high - low} (omega arith) ∙ sym (entries-none dataType allocTable s (p + 0 * 10) {n = 0 - 0} (omega arith)))))
 
 -- a stretch of buckets holds buckets below its end
 below-cond : (e : ℕ) (x : ℕ × Option ℕ) (xs : List (ℕ × Option ℕ)) (b c : Bool) → (c ≡ true → x .0 < e) → Below e xs → Below e (cond (b && c) (x ∷ xs) xs)
@@ -107,7 +106,7 @@ below-range a e (x ∷ xs) = below-cond e x (allocRange a e xs) (leb a (x .0)) (
 -- of entries below e the first is, and the others are
 pub below-step : (e n p : ℕ) (s : List ℕ) → 0 < n → Below e (allocFrom s n p) → (entryAt allocTable s p .first < e) × Below e (allocFrom s (n - 1) (p + 10))
 unfolding Below
-below-step e n p s h b = rw (table-step dataType allocTable s n p h) at b
+below-step e n p s h b = rw (entries-step dataType allocTable s n p h) at b
 
 -- ---- the entries of a book's alloc table
 

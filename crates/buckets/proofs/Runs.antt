@@ -22,10 +22,10 @@ use Rattle.book.specs.declared.Entry.{Entry}
 use Rattle.book.specs.Book.{Bkey, Book, dataType, allocTable, allocFrom, entryAt, keyHead, keyEnd, bkey, keyOf, keysFrom, bookOf}
 use Rattle.book.specs.Walk.{maybeU8, allocEntryOf}
 use Rattle.walk.specs.Keys.{keyAt, gather}
+use Rattle.book.proofs.Tables.{entries-step, entries-none}
 use Rattle.buckets.specs.declared.Used.{Used}
 use Rattle.buckets.specs.FreeSpace.{isRun, runEnd, noRun, heldRun, inUse, isFree, allocRange, usedBuckets, firstOr, setFindings, runFindings, heldRuns}
 use Rattle.buckets.specs.Steps.{runPair, inUseOf, isFreeOf, usedOf, usedWith, Fair}
-use Rattle.buckets.proofs.Tables.{table-step, table-none}
 
 -- ---- a run
 
@@ -163,7 +163,7 @@ module _ (s : List ℕ) (d start count : ℕ) where
 
   pub used-none : used 0 d ≡ usedOf d (from count)
   unfolding usedOf usedBuckets firstOr
-  used-none = rw (table-none _ allocTable s (start + count * 10) {n = count - count} (omega arith))
+  used-none = rw (entries-none _ allocTable s (start + count * 10) {n = count - count} (omega arith))
 
   pub used-turn : {left : ℕ} → 0 < left → left ≤ count → {e : AllocEntry} {u v : Used} → e ≡ allocEntryOf (entryAt allocTable s (start + (left - 1) * 10))
       → u ≡ usedOf d (from left) → v ≡ usedWith e u → v ≡ usedOf d (from (left - 1))
@@ -171,7 +171,7 @@ module _ (s : List ℕ) (d start count : ℕ) where
       let q = start + (left - 1) * 10 in
       let rest : allocFrom s (count - (left - 1) - 1) (q + 10) ≡ from left = ap₂ (allocFrom s) (omega arith) (omega arith) in
       v ∙ ap₂ usedWith e u ∙ used-cons d (entryAt allocTable s q) (from left)
-      ∙ ap (usedOf d) (ap (λ (l : List (ℕ × Option ℕ)). (entryAt allocTable s q .first, dataType (entryAt allocTable s q .rest)) ∷ l) (sym rest) ∙ sym (table-step dataType allocTable s (count - (left - 1)) q (omega arith)))
+      ∙ ap (usedOf d) (ap (λ (l : List (ℕ × Option ℕ)). (entryAt allocTable s q .first, dataType (entryAt allocTable s q .rest)) ∷ l) (sym rest) ∙ sym (entries-step dataType allocTable s (count - (left - 1)) q (omega arith)))
 
   pub used-all : {left : ℕ} → left ≡ 0 → {u : Used} → u ≡ usedOf d (from left) → u ≡ usedOf d (allocFrom s count start)
   used-all e u = u ∙ ap (usedOf d) (ap₂ (allocFrom s) (omega arith) (omega arith))

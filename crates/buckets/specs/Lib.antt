@@ -1,3 +1,2 @@
-pub mod BucketGensAgainstAlloc
 pub mod FreeSpace
 pub mod Steps

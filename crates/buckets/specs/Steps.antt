@@ -1,13 +1,12 @@
 -- What only contracts of private functions cite.
 use Prim.Native.Nat.{ℕ, _+_, _-_, _*_, _/_, _%_, _^_, _≤_, _<_, min, max}
 use mathlib.Core.Path.{_≡_}
-use mathlib.Core.Bool.{Bool, false, cond, not, _&&_}
+use mathlib.Core.Bool.{Bool, false, cond, not}
 use mathlib.Core.List.{List, [], _∷_, _++_}
 use mathlib.Core.Option.{Option}
 use lib.ListN.{length, getD}
 use lib.Dec.{eqb, ltb}
 use Rattle.findings.specs.Findings.{Finding, finding, when, only, each}
-use Rattle.pairs.specs.Pairs.{pair, has}
 use Rattle.book.specs.declared.AllocEntry.{AllocEntry}
 use Rattle.book.specs.declared.MaybeU8.{MaybeU8}
 use Rattle.book.specs.declared.MaybeU8.the-variants.{Is, Absent}
@@ -15,28 +14,7 @@ use Rattle.book.specs.Maps.{lowerBound}
 use Rattle.book.specs.Book.{Bkey, Book, allocFrom}
 use Rattle.buckets.specs.declared.Range.{Range}
 use Rattle.buckets.specs.declared.Used.{Used}
-use Rattle.buckets.specs.BucketGensAgainstAlloc.{isGens, gensOfKey}
 use Rattle.buckets.specs.FreeSpace.{isRun, heldRun, usedBuckets, firstOr, allocRange, gapFindings}
-
--- what a recorded generation gives, by the one that is expected
-abbrev pub genOf : ℕ → ℕ → ℕ → List Finding
-genOf bucket recorded expected = when (not (eqb recorded expected)) (finding 46 bucket recorded)
-
--- what a generation gives, by whether a key covers its bucket
-abbrev pub uncoveredOf : Bool → ℕ → ℕ → List Finding
-uncoveredOf covers bucket generation = when (not (eqb generation 0) && not covers) (finding 46 bucket generation)
-
--- what a key gives, where it is a bucket_gens key of the device
-abbrev pub keyGens : ℕ → List (ℕ × ℕ) → Bkey → List Finding
-keyGens device gens k = only (isGens device k) (gensOfKey gens k)
-
--- the pair that such a key gives: the offset that it covers, and 0
-unfoldable pub coverPair : ℕ → ℕ → Bkey → List ℕ
-coverPair device p k = cond (isGens device k) (pair (k .offset) 0 ∷ []) []
-
--- what a bucket's generation gives, where xs are the pairs of the keys
-unfoldable pub notCovered : List ℕ → ℕ → ℕ → List Finding
-notCovered xs bucket generation = when (not (eqb generation 0) && not (has (pair (bucket / 256) 0) xs)) (finding 46 bucket generation)
 
 -- the pair of start and end that a run gives
 unfoldable pub runPair : Book → ℕ → Bkey → List ℕ

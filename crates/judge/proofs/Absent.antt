@@ -17,7 +17,7 @@ use Rattle.book.specs.Words.{word, holds, subvolumeWord, masterWord, rootWord, 
 use Rattle.snapshots.specs.SnapshotSubvolFlags.{flagIsWrong, flagFindings, snapshotSubvolFlags}
 use Rattle.children.specs.SubvolumeChildren.{hasFsParent, fsParents, wrongEntry, subvolumeChildren}
 use Rattle.links.specs.SnapshotLinks.{treeMap, linkFindings, snapshotLinks}
-use Rattle.buckets.specs.BucketGensAgainstAlloc.{isGens, gensOfKey, bucketGensAgainstAlloc}
+use Rattle.gens.specs.BucketGensAgainstAlloc.{isGens, gensOfKey, bucketGensAgainstAlloc}
 use Rattle.keys.specs.declared.Present.{Present}
 use Rattle.keys.specs.Present.{hasBtree, withBtree, presentWith, presentIn}
 use Rattle.judge.specs.Steps.{subvolumeRules, snapshotRules}

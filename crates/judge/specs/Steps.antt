@@ -8,7 +8,7 @@ use Rattle.deletions.specs.SnapshotStates.{snapshotStates}
 use Rattle.snapshots.specs.SnapshotSubvolFlags.{snapshotSubvolFlags}
 use Rattle.children.specs.SubvolumeChildren.{subvolumeChildren}
 use Rattle.links.specs.SnapshotLinks.{snapshotLinks}
-use Rattle.buckets.specs.BucketGensAgainstAlloc.{bucketGensAgainstAlloc}
+use Rattle.gens.specs.BucketGensAgainstAlloc.{bucketGensAgainstAlloc}
 use Rattle.buckets.specs.FreeSpace.{freeSpace}
 
 -- the rules across keys, by the btrees without whose keys they find nothing

@@ -7,7 +7,7 @@ ghost use Rattle.book.specs.Book.{bookOf};
 ghost use Rattle.book.specs.Walk.{Opened};
 ghost use Rattle.children.specs.SubvolumeChildren.{subvolumeChildren};
 ghost use Rattle.links.specs.SnapshotLinks.{snapshotLinks};
-ghost use Rattle.buckets.specs.BucketGensAgainstAlloc.{bucketGensAgainstAlloc};
+ghost use Rattle.gens.specs.BucketGensAgainstAlloc.{bucketGensAgainstAlloc};
 ghost use Rattle.keys.specs.Present.{presentIn};
 ghost use Rattle.rules.specs.Rules.{findingsOf};
 ghost use Rattle.judge.specs.Steps.{
@@ -121,7 +121,7 @@ fn judge_gens(
     ensures few { λ r. ⌜ r ≤ h .keys * 256 + 65535 ⌝ }
 {
     if p.gens | (h.gens != 0) {
-        return buckets::bucket_gens_against_alloc(book, h, at, out, counts, work);
+        return gens::bucket_gens_against_alloc(book, h, at, out, counts, work);
     }
     0
 }

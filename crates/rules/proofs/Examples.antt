@@ -24,7 +24,7 @@ use Rattle.parents.specs.Roots.{oneMore, rootVia, rootWithin, rootOf, followedV
 use Rattle.snapshots.specs.SnapshotSubvolFlags.{flagged, flagIsWrong, flagFindings, snapshotSubvolFlags}
 use Rattle.children.specs.SubvolumeChildren.{hasFsParent, fsParents, subvolumeChildren}
 use Rattle.links.specs.SnapshotLinks.{treeMap, treeOfMap, isThe, isOther, masterFindings, treeFindings, namesRoot, wrongDepth, badChild, badSkip, rootFindings, backrefFindings, childFindings, skipFindings, linkFindings, snapshotLinks}
-use Rattle.buckets.specs.BucketGensAgainstAlloc.{isGens, bucketGensAgainstAlloc}
+use Rattle.gens.specs.BucketGensAgainstAlloc.{isGens, bucketGensAgainstAlloc}
 use Rattle.buckets.specs.FreeSpace.{heldRuns, gaps, freeSpace}
 use Rattle.forest.specs.Lists.{_∈_}
 use Rattle.forest.specs.Forest.{keysOf, snapshots, WellFormed, TrueParents, ForestBook, Sound, Absent}

@@ -19,7 +19,7 @@ use Rattle.deletions.specs.SnapshotStates.{snapshotStates, snapshotStateFinding
 use Rattle.snapshots.specs.SnapshotSubvolFlags.{snapshotSubvolFlags, flagFindings}
 use Rattle.children.specs.SubvolumeChildren.{subvolumeChildren, missingEntry, wrongEntry}
 use Rattle.links.specs.SnapshotLinks.{snapshotLinks, treeFindings, masterFindings, linkFindings, rootFindings, backrefFindings, childFindings, skipFindings}
-use Rattle.buckets.specs.BucketGensAgainstAlloc.{bucketGensAgainstAlloc, gensOfKey, genAt, uncovered}
+use Rattle.gens.specs.BucketGensAgainstAlloc.{bucketGensAgainstAlloc, gensOfKey, genAt, uncovered}
 use Rattle.buckets.specs.FreeSpace.{freeSpace, runFindings, setFindings, isFree, gapFindings}
 use Rattle.forest.specs.Lists.{_∈_}
 use Rattle.keys.specs.KeyFindings.{keyRules, keyFindings}

@@ -12,7 +12,7 @@ use Rattle.deletions.specs.SnapshotStates.{snapshotStates}
 use Rattle.snapshots.specs.SnapshotSubvolFlags.{snapshotSubvolFlags}
 use Rattle.children.specs.SubvolumeChildren.{subvolumeChildren}
 use Rattle.links.specs.SnapshotLinks.{snapshotLinks}
-use Rattle.buckets.specs.BucketGensAgainstAlloc.{bucketGensAgainstAlloc}
+use Rattle.gens.specs.BucketGensAgainstAlloc.{bucketGensAgainstAlloc}
 use Rattle.buckets.specs.FreeSpace.{freeSpace}
 use Rattle.forest.specs.Lists.{_∈_}
 use Rattle.keys.specs.KeyFindings.{keyFindings}

@@ -9,7 +9,7 @@ use Rattle.deletions.specs.SnapshotStates.{snapshotStates}
 use Rattle.snapshots.specs.SnapshotSubvolFlags.{snapshotSubvolFlags}
 use Rattle.children.specs.SubvolumeChildren.{subvolumeChildren}
 use Rattle.links.specs.SnapshotLinks.{snapshotLinks}
-use Rattle.buckets.specs.BucketGensAgainstAlloc.{bucketGensAgainstAlloc}
+use Rattle.gens.specs.BucketGensAgainstAlloc.{bucketGensAgainstAlloc}
 use Rattle.buckets.specs.FreeSpace.{freeSpace}
 
 -- "Then `subvolume_states`, `snapshot_claims`, .., `free_space`": the findings of a book are this list

@@ -125,7 +125,7 @@ fn judge_buckets(bytes: &[u8], h: Header, at: Places, out: &mut [u8], work: &mut
     requires { ⌜ Opened (now bytes) h at × (2 * h .keys ≤ length (now work)) ⌝ }
 {
     let mut counts = [0u64; 0];
-    let n = buckets::bucket_gens_against_alloc(bytes, h, at, out, &mut counts, work);
+    let n = gens::bucket_gens_against_alloc(bytes, h, at, out, &mut counts, work);
     lines::show_findings(out, n);
     let n = buckets::free_space(bytes, h, at, out, &mut counts, work);
     lines::show_findings(out, n);

@@ -1,13 +1,13 @@
--- `buckets::key_gens` meets its contract: the value is lent as the part of the book that it is.
+-- `gens::key_gens` meets its contract: the value is lent as the part of the book that it is.
 use denote.Ref.{now}
 use Rattle.book.proofs.Walk.{parts}
 use Rattle.walk.proofs.Gather.{at-end}
 use Rattle.findings.proofs.Laws.{lent, added-as}
-use Rattle.buckets.proofs.Covers.{gens-found}
+use Rattle.gens.proofs.Covers.{gens-found}
 use borrow.Author.Needs.{needs}
 use native.Mathlib.Omega.{arith}
-use Rattle.buckets.proofs.key_gens.Statement.{statement}
-use Rattle.buckets.proofs.key_gens.Tie as tie
+use Rattle.gens.proofs.key_gens.Statement.{statement}
+use Rattle.gens.proofs.key_gens.Tie as tie
 
 returns : tie.Need-returns
 returns c =

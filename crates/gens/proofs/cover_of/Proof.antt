@@ -1,10 +1,10 @@
--- `buckets::cover_of` meets its contract: the same block is covered as it was, another is looked up.
+-- `gens::cover_of` meets its contract: the same block is covered as it was, another is looked up.
 use Prim.Native.Nat.{ℕ}
 use mathlib.Core.Path.{ap, _∙_}
 use Rattle.pairs.specs.Pairs.{pairsOf, pair, has}
 use borrow.Author.Needs.{needs}
-use Rattle.buckets.proofs.cover_of.Statement.{statement}
-use Rattle.buckets.proofs.cover_of.Tie as tie
+use Rattle.gens.proofs.cover_of.Statement.{statement}
+use Rattle.gens.proofs.cover_of.Tie as tie
 
 returns : tie.Need-returns
 returns c =

@@ -1,4 +1,4 @@
--- `buckets::gens_of_value` meets its contract: a walk over the first 256 bytes of the value, with the place of each bucket in the table.
+-- `gens::gens_of_value` meets its contract: a walk over the first 256 bytes of the value, with the place of each bucket in the table.
 use Prim.Native.Nat.{_+_, _-_, _≤_, _<_}
 use mathlib.Core.Path.{_≡_, refl, sym}
 use denote.Ref.{now}
@@ -6,16 +6,16 @@ use lib.ListN.{length, take, drop, getD, length-take}
 use lib.Seq.{getD-take}
 use Rattle.findings.specs.Findings.{sink}
 use Rattle.search.specs.Bound.{LowerBound}
-use Rattle.buckets.specs.BucketGensAgainstAlloc.{genAt}
+use Rattle.gens.specs.BucketGensAgainstAlloc.{genAt}
 use Rattle.book.specs.Book.{gensTable, gensFrom}
 use Rattle.book.specs.Walk.{firstAt}
 use Rattle.findings.proofs.Laws.{added-as}
 use Rattle.findings.proofs.Walk.{Walk, first, turn-at, last, each-none, drop-past, begun-length, begun-counts}
-use Rattle.buckets.proofs.Gens.{bound-as, gen-is}
+use Rattle.gens.proofs.Gens.{bound-as, gen-is}
 use borrow.Author.Needs.{needs}
 use native.Mathlib.Omega.{arith}
-use Rattle.buckets.proofs.gens_of_value.Statement.{statement}
-use Rattle.buckets.proofs.gens_of_value.Tie as tie
+use Rattle.gens.proofs.gens_of_value.Statement.{statement}
+use Rattle.gens.proofs.gens_of_value.Tie as tie
 
 abbrev Inv-loop : tie.InvT-loop
 Inv-loop book start count offset value out₀ counts₀ end base at₀ n₀ i₀ out counts at n i =

@@ -1,4 +1,4 @@
--- `buckets::next_gen` meets its contract: at the place of the bucket stands an entry with it, or the table has none.
+-- `gens::next_gen` meets its contract: at the place of the bucket stands an entry with it, or the table has none.
 use Prim.Native.Nat.{ℕ, _+_, _*_, _<_}
 use mathlib.Core.Path.{_≡_, refl, sym, ap, _∙_}
 use denote.Ref.{now}
@@ -8,12 +8,12 @@ use Rattle.book.specs.Book.{wholeRest, gensTable}
 use Rattle.book.specs.Walk.{firstAt}
 use Rattle.book.proofs.Tables.{first-be, rest-be}
 use Rattle.tables.proofs.Found.{found-at, found-none}
-use Rattle.buckets.specs.BucketGensAgainstAlloc.{orZero}
-use Rattle.buckets.proofs.Gens.{place-past, place-same}
+use Rattle.gens.specs.BucketGensAgainstAlloc.{orZero}
+use Rattle.gens.proofs.Gens.{place-past, place-same}
 use borrow.Author.Needs.{needs}
 use native.Mathlib.Omega.{arith}
-use Rattle.buckets.proofs.next_gen.Statement.{statement}
-use Rattle.buckets.proofs.next_gen.Tie as tie
+use Rattle.gens.proofs.next_gen.Statement.{statement}
+use Rattle.gens.proofs.next_gen.Tie as tie
 
 bytes : (c : tie.After-shared-slice-known) (j : ℕ) → getD (now (c .before .args .book)) j 0 < 256
 bytes c j = c .shared-slice-known .given j .fits

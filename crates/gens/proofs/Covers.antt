@@ -17,8 +17,8 @@ use Rattle.book.specs.Walk.{Opened}
 use Rattle.book.proofs.Walk.{parts, value-part}
 use Rattle.walk.specs.Keys.{keyAt, AtKey, gather}
 use Rattle.walk.proofs.Gather.{at-is}
-use Rattle.buckets.specs.BucketGensAgainstAlloc.{isGens, genAt, gensOfKey, covered, uncovered, bucketGensAgainstAlloc}
-use Rattle.buckets.specs.Steps.{keyGens, coverPair, notCovered}
+use Rattle.gens.specs.BucketGensAgainstAlloc.{isGens, genAt, gensOfKey, covered, uncovered, bucketGensAgainstAlloc}
+use Rattle.gens.specs.Steps.{keyGens, coverPair, notCovered}
 
 -- the key at hand: what the code tests of it, and its value as the part of the book that is lent
 module _ {s : List ℕ} {p : ℕ} {f : KeyFront} (k : AtKey s p f) where

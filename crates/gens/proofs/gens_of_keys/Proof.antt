@@ -1,4 +1,4 @@
--- `buckets::gens_of_keys` meets its contract: the walk over the keys finds and puts what each gives.
+-- `gens::gens_of_keys` meets its contract: the walk over the keys finds and puts what each gives.
 use Prim.Native.Nat.{_+_, _*_, _≤_}
 use mathlib.Core.Path.{_≡_, refl}
 use lib.ListN.{length}
@@ -8,11 +8,11 @@ use Rattle.book.specs.Book.{keysFrom, bookOf}
 use Rattle.book.proofs.Walk.{parts, step}
 use Rattle.walk.proofs.Keys.{keys-none, turn-keys-any}
 use Rattle.walk.proofs.Gather.{Gathered, at-key, at-end, none-yet, one-more, all-put}
-use Rattle.buckets.specs.Steps.{keyGens, coverPair}
+use Rattle.gens.specs.Steps.{keyGens, coverPair}
 use borrow.Author.Needs.{needs}
 use native.Mathlib.Omega.{arith}
-use Rattle.buckets.proofs.gens_of_keys.Statement.{statement}
-use Rattle.buckets.proofs.gens_of_keys.Tie as tie
+use Rattle.gens.proofs.gens_of_keys.Statement.{statement}
+use Rattle.gens.proofs.gens_of_keys.Tie as tie
 
 abbrev Inv-loop : tie.InvT-loop
 Inv-loop book h at out₀ counts₀ work₀ c₀ left₀ p₀ out counts work c left p =

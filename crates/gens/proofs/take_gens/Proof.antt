@@ -1,14 +1,14 @@
--- `buckets::take_gens` meets its contract, by the test.
+-- `gens::take_gens` meets its contract, by the test.
 use Prim.Native.Nat.{ℕ}
 use mathlib.Core.Path.{sym, ap, _∙_}
 use mathlib.Core.List.{List, _++_, append-nil}
 use Rattle.findings.proofs.Laws.{added-only, added-not}
 use Rattle.pairs.specs.Pairs.{pairsOf}
-use Rattle.buckets.proofs.Covers.{cover-yes, cover-no}
+use Rattle.gens.proofs.Covers.{cover-yes, cover-no}
 use borrow.Author.Needs.{needs}
 use native.Mathlib.Omega.{arith}
-use Rattle.buckets.proofs.take_gens.Statement.{statement}
-use Rattle.buckets.proofs.take_gens.Tie as tie
+use Rattle.gens.proofs.take_gens.Statement.{statement}
+use Rattle.gens.proofs.take_gens.Tie as tie
 
 returns : tie.Need-returns
 returns c =

@@ -1,8 +1,8 @@
--- `buckets::is_gens` meets its contract, by the test of the front.
-use Rattle.buckets.proofs.Covers.{gens-by, gens-not}
+-- `gens::is_gens` meets its contract, by the test of the front.
+use Rattle.gens.proofs.Covers.{gens-by, gens-not}
 use borrow.Author.Needs.{needs}
-use Rattle.buckets.proofs.is_gens.Statement.{statement}
-use Rattle.buckets.proofs.is_gens.Tie as tie
+use Rattle.gens.proofs.is_gens.Statement.{statement}
+use Rattle.gens.proofs.is_gens.Tie as tie
 
 pub is-gens-spec : {M : Type 1} → statement M
 is-gens-spec =

@@ -1,14 +1,14 @@
--- `buckets::bucket_gens_against_alloc` meets its contract: what the keys give, then what the pairs of the keys, sorted, leave uncovered.
+-- `gens::bucket_gens_against_alloc` meets its contract: what the keys give, then what the pairs of the keys, sorted, leave uncovered.
 use mathlib.Core.Path.{ap, _∙_}
 use Rattle.findings.proofs.Laws.{more-lent}
 use Rattle.pairs.specs.Pairs.{sort}
 use Rattle.pairs.proofs.Order.{sorted-by}
 use Rattle.book.proofs.Walk.{parts}
-use Rattle.buckets.proofs.Covers.{uncovered-all}
+use Rattle.gens.proofs.Covers.{uncovered-all}
 use borrow.Author.Needs.{needs}
 use native.Mathlib.Omega.{arith}
-use Rattle.buckets.proofs.bucket_gens_against_alloc.Statement.{statement}
-use Rattle.buckets.proofs.bucket_gens_against_alloc.Tie as tie
+use Rattle.gens.proofs.bucket_gens_against_alloc.Statement.{statement}
+use Rattle.gens.proofs.bucket_gens_against_alloc.Tie as tie
 
 show-uncovered-requires : tie.Need-show-uncovered-requires
 show-uncovered-requires c κs =

@@ -1,21 +1,20 @@
--- `buckets::show_uncovered` meets its contract: a walk over the table.
+-- `gens::show_uncovered` meets its contract: a walk over the table.
 use Prim.Native.Nat.{ℕ, _+_, _*_, _≤_, _<_}
 use mathlib.Core.Path.{_≡_, refl, sym, ap, _∙_}
 use lib.ListN.{length, getD}
 use Rattle.bits.proofs.Laws.{be-one}
 use Rattle.findings.specs.Findings.{each, sink}
 use Rattle.findings.proofs.Laws.{added-as}
-use Rattle.findings.proofs.Walk.{Begun, first, turn, last, each-none, begun-length, begun-counts}
+use Rattle.findings.proofs.Walk.{Begun, first, turn, last, each-next, each-none, begun-length, begun-counts}
 use Rattle.pairs.specs.Pairs.{pairsOf, pair, has}
 use Rattle.book.specs.Book.{wholeRest, gensTable, gensFrom}
-use Rattle.book.proofs.Tables.{first-be, rest-be}
-use Rattle.buckets.specs.Steps.{notCovered}
-use Rattle.buckets.proofs.Covers.{not-covered}
-use Rattle.buckets.proofs.Tables.{table-none, table-next}
+use Rattle.book.proofs.Tables.{first-be, rest-be, entries-step, entries-none}
+use Rattle.gens.specs.Steps.{notCovered}
+use Rattle.gens.proofs.Covers.{not-covered}
 use borrow.Author.Needs.{needs}
 use native.Mathlib.Omega.{arith}
-use Rattle.buckets.proofs.show_uncovered.Statement.{statement}
-use Rattle.buckets.proofs.show_uncovered.Tie as tie
+use Rattle.gens.proofs.show_uncovered.Statement.{statement}
+use Rattle.gens.proofs.show_uncovered.Tie as tie
 
 abbrev Inv-loop : tie.InvT-loop
 Inv-loop book start count work n out₀ counts₀ covered c₀ found₀ left₀ p₀ out counts c found left p =
@@ -39,7 +38,7 @@ loop-again c =
       omega arith,
       omega arith,
       cover .1 ∙ ap (λ (k : ℕ). has (pair k 0) xs) (sym (cover .0)),
-      turn (l .inv .3) shown (table-next wholeRest gensTable s (λ e. notCovered xs (e .0) (e .1)) (l .left) (l .p) (c .before .before .before .before .before .before .before .before .before .before .loop-test .taken)),
+      turn (l .inv .3) shown (each-next (λ _ e. notCovered xs (e .0) (e .1)) (λ i e. refl) (entries-step wholeRest gensTable s (l .left) (l .p) (c .before .before .before .before .before .before .before .before .before .before .loop-test .taken))),
     )
 
 pub show-uncovered-spec : {M : Type 1} → statement M
@@ -61,4 +60,4 @@ show-uncovered-spec =
     loop-again
     (λ c. begun-length (c .before .loop .inv .3))
     (λ c. begun-counts (c .before .loop .inv .3))
-    (λ c. (last (c .before .loop .inv .3) (each-none _ _ (table-none wholeRest gensTable _ _ (omega arith))), omega arith)))
+    (λ c. (last (c .before .loop .inv .3) (each-none _ _ (entries-none wholeRest gensTable _ _ (omega arith))), omega arith)))

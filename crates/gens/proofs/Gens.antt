@@ -9,8 +9,8 @@ use Rattle.search.specs.Bound.{LowerBound}
 use Rattle.book.specs.Maps.{lookup}
 use Rattle.book.specs.declared.Table.{Table}
 use Rattle.book.specs.Walk.{firstAt, Rising}
-use Rattle.buckets.specs.BucketGensAgainstAlloc.{orZero, bucketOf, genAt}
-use Rattle.buckets.specs.Steps.{genOf}
+use Rattle.gens.specs.BucketGensAgainstAlloc.{orZero, bucketOf, genAt}
+use Rattle.gens.specs.Steps.{genOf}
 
 -- ---- the place of the next number
 

@@ -1,0 +1,2 @@
+pub mod BucketGensAgainstAlloc
+pub mod Steps
