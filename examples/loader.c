@@ -110,6 +110,7 @@ static const char *const refusals[] = {
     "there are bytes after the last key",
     "the work area is short",
     [12] = "the drawn mark is set, but there is a parents table",
+    [13] = "the parents table has more than 4,096 entries",
 };
 
 /* Calls with room for one finding, since most books have none, and once more with room for all of them if they did not fit. */

@@ -22,6 +22,7 @@ extern "C" {
 #endif
 
 #define DOCKWRENCH_BOOK_MAX 1048576     /* bytes of a book at most */
+#define DOCKWRENCH_PARENTS_MAX 4096     /* entries of a parents table at most */
 #define DOCKWRENCH_FINDING_BYTES 17     /* a finding: kind 1 byte, subject 8, object 8, most significant first */
 #define DOCKWRENCH_WORDS_PER_KEY 2      /* work words for each key of the book */
 #define DOCKWRENCH_STACK 24576          /* bytes of stack that a call takes at most: measured, and rounded up */
@@ -48,20 +49,22 @@ extern "C" {
  *    8   bytes after the last key                          the first of them
  *    9   work area short: under two words a key            place 0
  *   12   a parents table with the drawn mark               place 0
+ *   13   a parents table of more than 4,096 entries        place 0
  *
- * with count() 0, and both areas are untouched. The first that applies is given: 1, 2, 3, 12; then entries and keys
- * from front to back, at each 4, 5, 6, 7 before the next is looked at; then 8, 9.
+ * with count() 0, and both areas are untouched. The first that applies is given: 1, 2, 3, 12, 13; then entries and
+ * keys from front to back, at each 4, 5, 6, 7 before the next is looked at; then 8, 9.
  *
  * The parents of snapshots are those of the parents table, or in a drawn book (dockwrench_drawn) those that the keys
  * name: each key of btree 9 and type 22 with 8 value bytes or more gives the id in its offset's low 32 bits the parent
- * in bytes 4 to 7 of its value, least significant first. Of keys with one id the last gives the parent.
+ * in bytes 4 to 7 of its value, least significant first. Of keys with one id the last gives the parent. A drawn book
+ * may have any number of snapshots.
  */
 uint64_t dockwrench_check(const uint8_t *book, size_t bytes, uint8_t *findings, size_t room, uint64_t *work, size_t words);
 
 /*
  * The root above a snapshot id, by the book's parents: number 0, root() and links(), the number of parent links
- * followed, from 0 to 1,024; or number 11, where no such number of links leads to a root; or a refusal 1 to 8 or 12 as
- * above. What has no meaning is zero.
+ * followed, from 0 to 1,024; or number 11, where no such number of links leads to a root; or a refusal 1 to 8, 12 or 13
+ * as above. What has no meaning is zero.
  *
  * Over a drawn book whose snapshots stand in rising order of id, with ids that rise towards the root, a call costs
  * about one pass over the keys. In any other order it may cost a pass for each link, of which there are 1,024 at most.
@@ -70,7 +73,7 @@ uint64_t dockwrench_ancestor(const uint8_t *book, size_t bytes, uint32_t id);
 
 /*
  * Whether a subvolume id is unavailable, by the state words of the book's keys: number 0 and yes(), which is 1 or 0; or
- * a refusal 1 to 8 or 12. What has no meaning is zero.
+ * a refusal 1 to 8, 12 or 13. What has no meaning is zero.
  */
 uint64_t dockwrench_unavailable(const uint8_t *book, size_t bytes, uint32_t id);
 

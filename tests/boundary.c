@@ -131,24 +131,32 @@ static struct book generation(void) {
     return book;
 }
 
-/* Books for the refusals 3 to 8 and 12. */
+/* More parents than a table may have. */
+static void put_parents(struct book *book) {
+    book->bytes[24] = (DOCKWRENCH_PARENTS_MAX + 1) >> 8;
+    book->bytes[25] = (DOCKWRENCH_PARENTS_MAX + 1) & 255;
+}
+
+/* Books for the refusals 3 to 8, 12 and 13. */
 static struct book refused(unsigned number) {
     struct book book;
-    unsigned counts = number == 6 ? 0x02000 : number == 8 ? 0 : number == 12 ? 0x01000 : 0x10000;
+    unsigned counts = number == 6 ? 0x02000 : number == 8 ? 0 : number >= 12 ? 0x01000 : 0x10000;
     header(&book, number == 3 ? 0x1001 : number == 12 ? 0x1000 | DRAWN : 0x1000, 0, 0, counts);
     if (number == 6) {
         be(&book, 8, 5ull << 32);
         be(&book, 8, 5ull << 32);
     } else if (number == 8) {
         be(&book, 1, 0);
-    } else if (number == 12) {
+    } else if (number >= 12) {
         be(&book, 8, 5ull << 32);
+        if (number == 13)
+            put_parents(&book);
     } else if (number != 4) {
         key(&book, number == 7 ? 15 : 0, 0, 0, 0);
         book.bytes[35] = number == 5;
     }
     book.number = number;
-    book.place = number == 3 || number == 12 ? 0 : number == 6 ? 40 : 32;
+    book.place = number == 3 || number >= 12 ? 0 : number == 6 ? 40 : 32;
     return book;
 }
 
@@ -274,14 +282,16 @@ static void lengths(void) {
         check(&book, 0, 0, 0);
     }
     done("books of 0 to 31 bytes");
-    book = refused(12);
-    book.number = 2;
-    for (book.length = 0; book.length < 32; book.length++)
-        entries(&book, 0);
-    book.number = 12;
-    for (book.length = 32; book.length < 40; book.length++)
-        entries(&book, 0);
-    done("a drawn book with a parent, cut to 0 to 39 bytes");
+    for (unsigned number = 12; number <= 13; number++) {
+        book = refused(number);
+        book.number = 2;
+        for (book.length = 0; book.length < 32; book.length++)
+            entries(&book, 0);
+        book.number = number;
+        for (book.length = 32; book.length < 40; book.length++)
+            entries(&book, 0);
+    }
+    done("a drawn book with a parent and one with 4,097 parents, cut to 0 to 39 bytes");
     book = listing();
     book.number = 4;
     book.place = 32;
@@ -293,7 +303,7 @@ static void lengths(void) {
 /* Null for what is empty: the book, and either area or both, over books that are judged and that are refused. */
 static void nulls(void) {
     struct book books[] = {empty(),    listing(),  tables(),   drawn(),     generation(),
-                           refused(3), refused(4), refused(8), refused(12), empty()};
+                           refused(3), refused(4), refused(8), refused(12), refused(13), empty()};
     struct book *none = &books[sizeof books / sizeof *books - 1];
     none->length = 0;
     none->number = 2;
@@ -331,11 +341,15 @@ static void longest_books(void) {
     memcpy(book, start.bytes, start.length);
     longest(book, 12);
     done("a drawn book with a parent, of 1,048,576 bytes and one more");
+    start = refused(13);
+    memcpy(book, start.bytes, start.length);
+    longest(book, 13);
+    done("a book with 4,097 parents, of 1,048,576 bytes and one more");
     free(book);
 }
 
 static void addresses(void) {
-    struct book books[] = {empty(), listing(), tables(), drawn(), refused(5), refused(6), refused(12)};
+    struct book books[] = {empty(), listing(), tables(), drawn(), refused(5), refused(6), refused(12), refused(13)};
     for (size_t shift = 0; shift < 16; shift++) {
         for (size_t i = 0; i < sizeof books / sizeof *books; i++)
             entries(&books[i], shift);
@@ -349,7 +363,7 @@ static void addresses(void) {
 }
 
 static void work_areas(void) {
-    struct book books[] = {empty(), listing(), tables(), drawn(), refused(8), refused(12)};
+    struct book books[] = {empty(), listing(), tables(), drawn(), refused(8), refused(12), refused(13)};
     for (size_t i = 0; i < sizeof books / sizeof *books; i++) {
         for (size_t words = 0; words <= 40; words++) {
             check(&books[i], 0, sizeof books[i].findings, words);
@@ -381,12 +395,12 @@ static void gives(struct book book, unsigned number, uint32_t place) {
 }
 
 static void refusals(void) {
-    static const unsigned numbers[] = {3, 4, 5, 6, 7, 8, 12};
+    static const unsigned numbers[] = {3, 4, 5, 6, 7, 8, 12, 13};
     for (size_t i = 0; i < sizeof numbers / sizeof *numbers; i++) {
         struct book book = refused(numbers[i]);
         gives(book, book.number, book.place);
     }
-    done("refusals 3 to 8 and 12");
+    done("refusals 3 to 8, 12 and 13");
 }
 
 /* Several refusals in one book: the first entry's is given, and of one entry the first of 4, 5, 6, 7. */
@@ -412,22 +426,28 @@ static void orders(void) {
     done("the first of several refusals");
 }
 
-/* Any of the spare bits beside the drawn mark and a parent: 3 is given before 12. */
+/* Any of the spare bits beside the drawn mark and a parent, and beside 4,097 parents: 3 is given before 12 and 13. */
 static void spare_bits(void) {
     for (int bit = 0; bit < SPARE; bit++) {
-        struct book book = refused(12);
-        book.bytes[0] |= (uint8_t)(1 << bit >> 8);
-        book.bytes[1] |= (uint8_t)(1 << bit);
-        gives(book, 3, 0);
+        for (unsigned number = 12; number <= 13; number++) {
+            struct book book = refused(number);
+            book.bytes[0] |= (uint8_t)(1 << bit >> 8);
+            book.bytes[1] |= (uint8_t)(1 << bit);
+            gives(book, 3, 0);
+        }
     }
-    done("spare bits beside the drawn mark");
+    done("spare bits beside the drawn mark, and beside 4,097 parents");
 }
 
-/* The drawn mark in a book that is refused for something else, which stays so; with a parent too, 12 is given before
-   all of these but 3. */
+/* 4,097 parents in a book that is refused for something else: 13 is given before all of these but 3. The drawn mark in
+   such a book, which stays refused as it was; with a parent too, or 4,097, 12 is given before all but 3. */
 static void marks(void) {
     for (unsigned number = 3; number <= 8; number++) {
-        struct book book = refused(number);
+        struct book book = refused(number), many = book;
+        put_parents(&many);
+        gives(many, number == 3 ? 3 : 13, 0);
+        many.bytes[0] |= DRAWN >> 8;
+        gives(many, number == 3 ? 3 : 12, 0);
         book.bytes[0] |= DRAWN >> 8;
         if (number != 6) /* has parents */
             gives(book, number, book.place);
@@ -437,7 +457,7 @@ static void marks(void) {
     struct book book = empty();
     book.bytes[0] |= DRAWN >> 8;
     entries(&book, 0);
-    done("the drawn mark beside other refusals, and alone");
+    done("the drawn mark and 4,097 parents beside other refusals, and the mark alone");
 }
 
 /* Any bytes are answered: a bit of a book is flipped; a refusal leaves both areas as they were, and is the questions'
@@ -450,7 +470,7 @@ static void flip(struct book book, size_t bit) {
     memset(work, 0xa5, sizeof work);
     uint64_t answer = dockwrench_check(book.bytes, book.length, findings, sizeof findings, work, 8);
     unsigned number = dockwrench_number(answer);
-    HOLD(number <= 10 || number == 12);
+    HOLD(number <= 10 || number == 12 || number == 13);
     HOLD(number % 10 == 0 || (dockwrench_count(answer) == 0 && all(findings, sizeof findings, 0xa5)));
     for (int i = 0; i < 8; i++)
         HOLD(work[i] == (number % 10 == 0 ? 0 : old));
@@ -474,7 +494,9 @@ static void parts(void) {
     uint8_t most[32] = {[6] = 255, [7] = 255}, marked[32] = {8}, unmarked[32] = {255 - 8};
     uint8_t from_keys[32] = {DRAWN >> 8}, from_table[32] = {255 - (DRAWN >> 8)};
     uint64_t answer = 0x0b123456fedcba98;
-    _Static_assert(DOCKWRENCH_BOOK_MAX == 1048576 && DOCKWRENCH_FINDING_BYTES == sizeof finding && DOCKWRENCH_WORDS_PER_KEY == 2, "sizes");
+    _Static_assert(DOCKWRENCH_BOOK_MAX == 1048576 && DOCKWRENCH_PARENTS_MAX == 4096 && DOCKWRENCH_FINDING_BYTES == sizeof finding &&
+                       DOCKWRENCH_WORDS_PER_KEY == 2,
+                   "sizes");
     HOLD(dockwrench_number(answer) == 11);
     HOLD(dockwrench_place(answer) == 0x123456 && dockwrench_links(answer) == 0x123456);
     HOLD(dockwrench_count(answer) == 0xfedcba98 && dockwrench_root(answer) == 0xfedcba98);

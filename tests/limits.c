@@ -102,18 +102,31 @@ static void refused(const char *what, size_t bytes) {
 
 /* ---- the limits */
 
-/* A table of 65,535 entries of `size` bytes, whose count stands at byte `count_at` of the header: entry i has i in the two bytes from its
+/* A table of `count` entries of `size` bytes, whose count stands at byte `count_at` of the header: entry i has i in the two bytes from its
    byte `low` on. It is judged whole, cut by a byte, and with its last entry equal to the one before. */
-static void table(const char *what, int count_at, size_t size, size_t low) {
-    size_t bytes = HEADER + 65535 * size;
+static void table(const char *of, unsigned count, int count_at, size_t size, size_t low) {
+    char what[64];
+    size_t bytes = HEADER + count * size;
+    snprintf(what, sizeof what, "%u %s", count, of);
     header(0, 0, 0, 0);
-    put16(book + count_at, 65535);
-    for (size_t i = 0; i < 65535; i++)
-        put16(book + HEADER + size * i + low, (unsigned)i);
+    put16(book + count_at, count);
+    for (unsigned i = 0; i < count; i++)
+        put16(book + HEADER + size * i + low, i);
     check(what, bytes);
     check(what, bytes - 1);
-    put16(book + HEADER + size * 65534 + low, 65533);
+    put16(book + HEADER + size * (count - 1) + low, count - 2);
     check(what, bytes);
+}
+
+/* Tables as long as their counts can say; that of the parents has a limit of its own. */
+static void tables(void) {
+    table("parents", DOCKWRENCH_PARENTS_MAX - 1, 24, 8, 2);
+    table("parents", DOCKWRENCH_PARENTS_MAX, 24, 8, 2);
+    table("parents", DOCKWRENCH_PARENTS_MAX + 1, 24, 8, 2);
+    table("parents", 65535, 24, 8, 2);
+    table("subvolumes", 65535, 26, 8, 2);
+    table("gens", 65535, 28, 9, 6);
+    table("alloc entries", 65535, 30, 10, 6);
 }
 
 /* 65,535 buckets whose generation 1 no key records: a finding each. */
@@ -145,10 +158,7 @@ static unsigned fill(void) {
 static void lengths(void) {
     check("zeros", DOCKWRENCH_BOOK_MAX + 1);
     check("zeros", DOCKWRENCH_BOOK_MAX);
-    table("65535 parents", 24, 8, 2);
-    table("65535 subvolumes", 26, 8, 2);
-    table("65535 gens", 28, 9, 6);
-    table("65535 alloc entries", 30, 10, 6);
+    tables();
     generations();
     header(0, 0, 0, 0);
     unsigned count = fill();
@@ -206,8 +216,34 @@ static void refusals(void) {
     refused("12: drawn mark, parent 5", end);
     put16(book + 24, 65535);
     refused("12: drawn mark, 65535 parents that do not fit", end);
+    header(DRAWN, 0, 5000, 0);
+    refused("12: drawn mark, 5000 parents", HEADER + 8 * 5000);
     header(DRAWN, 0, 0, 0);
     check("the drawn mark alone", end);
+    header(0, 0, DOCKWRENCH_PARENTS_MAX + 1, 0);
+    refused("13: 4097 parents, all of id 0", HEADER + 8 * (DOCKWRENCH_PARENTS_MAX + 1));
+    refused("13: 4097 parents that do not fit", end);
+    put16(book + 24, 65535);
+    refused("13: 65535 parents that do not fit", end);
+    put16(book + 24, DOCKWRENCH_PARENTS_MAX);
+    refused("4: 4096 parents that do not fit", end);
+    refused("6: 4096 parents, all of id 0", HEADER + 8 * DOCKWRENCH_PARENTS_MAX);
+}
+
+/* Four chains with as many snapshots as a parents table has room for, and with a link more each: then there is room for
+   none, but drawn they are judged. */
+static void most_parents(const char *order, uint32_t stride) {
+    struct forest forest = {TREES, 4, DOCKWRENCH_PARENTS_MAX / 4 - 1, 1, stride};
+    char what[64];
+    for (int i = 0; i < 3; i++) {
+        forest.links += i == 1;
+        forest.marks |= i == 2 ? DRAWN : 0;
+        snprintf(what, sizeof what, "%u snapshots%s %s", 4 * (unsigned)(forest.links + 1), i == 2 ? ", drawn," : "", order);
+        write_forest(&forest);
+        judge(what, end, 0, dockwrench_words(book, end));
+        ancestor(what, id_at(&forest, 1, forest.links));
+        ancestor(what, id_at(&forest, 4, 0));
+    }
 }
 
 /* Chains of about as many links as lead to a root: the root above the last snapshot, and the findings. */
@@ -357,6 +393,8 @@ int main(void) {
     sources();
     drawn_keys();
     drawn_in_order();
+    most_parents("in rising order", 1);
+    most_parents("in no order", NO_ORDER);
     longest_forest("15 drawn chains in rising order", 1);
     longest_forest("15 drawn chains in no order", NO_ORDER);
     states();

@@ -30,8 +30,8 @@ wrong_texts() {
 # long_texts: a line, a byte or a word more than fits; before each of the first two, the longest that fits
 long_texts() {
     local key='key btree=0 type=0 offset=0'
-    { echo book && seq 65535 | sed 's/.*/parent id=&/'; } | "$book" pack | wc -c
-    { echo book && seq 65536 | sed 's/.*/parent id=&/'; } | say pack
+    { echo book && seq 65535 | sed 's/.*/subvolume id=& snapshot=1/'; } | "$book" pack | wc -c
+    { echo book && seq 65536 | sed 's/.*/subvolume id=& snapshot=1/'; } | say pack
     { echo book && yes "$key" | head -n 37448; } | "$book" pack | wc -c
     { echo book && yes "$key" | head -n 37449; } | say pack
     { echo book && echo "$key words=0$(printf ',0%.0s' {1..510}) value=000000"; } | "$book" pack | wc -c

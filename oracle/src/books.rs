@@ -8,6 +8,7 @@ mod fields;
 mod forest;
 mod many;
 mod mixed;
+mod parents;
 mod random;
 mod runs;
 mod short;
@@ -33,6 +34,7 @@ pub enum Mode {
     Drawn = 9,
     DrawnForest = 10,
     DrawnChains = 11,
+    Parents = 12,
 }
 
 /// The numbers from which the asked ids of all modes are drawn, beside those of the modes.
@@ -41,7 +43,7 @@ const ASKED: u64 = 6;
 const FEWEST: u64 = 10;
 
 impl Mode {
-    pub const ALL: [Mode; 11] = [
+    pub const ALL: [Mode; 12] = [
         Mode::Mixed,
         Mode::Forest,
         Mode::Chains,
@@ -51,6 +53,7 @@ impl Mode {
         Mode::Drawn,
         Mode::DrawnForest,
         Mode::DrawnChains,
+        Mode::Parents,
         Mode::Bushes,
         Mode::Many,
     ];
@@ -68,6 +71,7 @@ impl Mode {
             Mode::Drawn => "drawn",
             Mode::DrawnForest => "drawn_forest",
             Mode::DrawnChains => "drawn_chains",
+            Mode::Parents => "parents",
         }
     }
 
@@ -75,7 +79,7 @@ impl Mode {
     pub fn share(self, books: u64) -> u64 {
         match self {
             Mode::DrawnChains => FEWEST.max(books / 10),
-            Mode::Bushes => FEWEST.max(books / 100),
+            Mode::Parents | Mode::Bushes => FEWEST.max(books / 100),
             Mode::Many => FEWEST.max(books / 200),
             _ => books,
         }
@@ -101,6 +105,7 @@ pub fn book(mode: Mode, seed: u64, index: u64) -> Vec<u8> {
         Mode::Drawn => drawn::book(r),
         Mode::DrawnForest => drawn::forest(r).encode(),
         Mode::DrawnChains => drawn::chain(r).encode(),
+        Mode::Parents => parents::book(r),
     }
 }
 

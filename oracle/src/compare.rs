@@ -6,8 +6,8 @@ use crate::shrink;
 use crate::states;
 use std::sync::atomic::{AtomicBool, Ordering};
 
-/// How many numbers an answer may have: 0 to 12.
-const NUMBERS: usize = 13;
+/// How many numbers an answer may have: 0 to 13.
+const NUMBERS: usize = 14;
 
 /// How often each kind and each number of an answer was reached.
 #[derive(Clone)]

@@ -1,5 +1,5 @@
 //! What documents 01 and 02 state for a book: the answers of the three calls, with the published rules as the judge of the findings.
-use crate::layout::{Book, Refusal};
+use crate::layout::{Book, Limit, Refusal};
 use crate::library::{After, Answer, FINDING_BYTES};
 use crate::published::{Finding, Maps, Said};
 use crate::states;
@@ -48,7 +48,16 @@ impl Expected {
 
     /// The same with maps, or with a judge, by another reading.
     pub fn by(bytes: &[u8], maps: impl Fn(&Book) -> Maps, judge: impl Fn(&Maps) -> Said) -> Expected {
-        match Book::decode(bytes) {
+        Expected::in_book(Book::decode(bytes), maps, judge)
+    }
+
+    /// The same with refusals 12 and 13 by another reading.
+    pub fn within(bytes: &[u8], limit: Limit) -> Expected {
+        Expected::in_book(Book::decode_by(bytes, limit), Maps::of, Maps::judge)
+    }
+
+    fn in_book(read: Result<Book, Refusal>, maps: impl Fn(&Book) -> Maps, judge: impl Fn(&Maps) -> Said) -> Expected {
+        match read {
             Err(refusal) => Expected::Refused(refusal),
             Ok(book) => {
                 let maps = Box::new(maps(&book));

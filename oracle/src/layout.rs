@@ -1,5 +1,6 @@
-//! The packed book of document 01, with the drawn mark of document 02's ticket 2: written from fields, and read with its refusals. Written from
-//! these documents alone, so that it is a second reading of the same sentences and not a copy of the proved one.
+//! The packed book of document 01, with the drawn mark of document 02's ticket 2 and the limit of ticket 6: written from
+//! fields, and read with its refusals. Written from these documents alone, so that it is a second reading of the same
+//! sentences and not a copy of the proved one.
 
 /// A book over this many bytes is refused.
 pub const LONGEST_BOOK: usize = 1_048_576;
@@ -13,6 +14,8 @@ pub const KEY_HEAD_BYTES: usize = 28;
 pub const LONGEST_VALUE: usize = 2047;
 /// The btree whose keys need the trees mark.
 pub const SNAPSHOT_TREES: u8 = 15;
+/// The most entries of a parents table.
+pub const MOST_PARENTS: u16 = 4_096;
 
 #[derive(Clone, Debug, Default, PartialEq, Eq)]
 pub struct Key {
@@ -44,6 +47,25 @@ pub struct Book {
 /// A refusal: its number in document 01 or 02, and the place.
 #[derive(Clone, Copy, Debug, PartialEq, Eq)]
 pub struct Refusal(pub u8, pub usize);
+
+/// What a header says of parents: the drawn mark, and the counts of the table and of the keys.
+#[derive(Clone, Copy)]
+pub struct Asked {
+    pub drawn: bool,
+    pub parents: u16,
+    pub keys: u16,
+}
+
+/// The refusal, if any, that a header's parents give before any entry is read.
+pub type Limit = fn(Asked) -> Option<u8>;
+
+/// Ticket 2's refusal 12, and directly after it ticket 6's 13. Drawn parents are not counted.
+pub fn limit(asked: Asked) -> Option<u8> {
+    if asked.drawn && asked.parents != 0 {
+        return Some(12);
+    }
+    (asked.parents > MOST_PARENTS).then_some(13)
+}
 
 impl Book {
     /// The bytes of a book. Entries are written in the order in which they stand, also where that is not a book's.
@@ -77,8 +99,13 @@ impl Book {
         b
     }
 
-    /// The book that bytes are, or the first refusal of 1 to 8 and 12.
+    /// The book that bytes are, or the first refusal of 1 to 8, 12 and 13.
     pub fn decode(bytes: &[u8]) -> Result<Book, Refusal> {
+        Book::decode_by(bytes, limit)
+    }
+
+    /// The same with 12 and 13 by another reading.
+    pub fn decode_by(bytes: &[u8], limit: Limit) -> Result<Book, Refusal> {
         if bytes.len() > LONGEST_BOOK {
             return Err(Refusal(1, 0));
         }
@@ -90,8 +117,8 @@ impl Book {
         }
         let half = |at: usize| u16::from_be_bytes([bytes[at], bytes[at + 1]]);
         let (drawn, parents) = (bytes[0] & DRAWN_MARK != 0, half(24));
-        if drawn && parents != 0 {
-            return Err(Refusal(12, 0));
+        if let Some(number) = limit(Asked { drawn, parents, keys: half(6) }) {
+            return Err(Refusal(number, 0));
         }
         let mut book = Book {
             mark: bytes[0] & TREES_MARK != 0,

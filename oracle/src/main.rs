@@ -161,7 +161,12 @@ fn speed(named: &str) -> Option<bool> {
     table("book");
     let rows = speed::rows().into_iter().filter(|(name, _)| name.contains(named));
     let is_ahead = rows.fold(true, |is_ahead, (name, book)| row(name, &book) && is_ahead);
-    let tables = [("long tables", speed::tables()), ("drawn parents", speed::drawn()), ("key types", speed::types())];
+    let tables = [
+        ("long tables", speed::tables()),
+        ("drawn parents", speed::drawn()),
+        ("key types", speed::types()),
+        ("chains made to be slow", speed::slow()),
+    ];
     for (title, books) in tables {
         println!();
         table(title);

@@ -1,10 +1,10 @@
-//! Shows that a run can fail: one finding of the judge is changed, or drawn parents, foreign types or the offsets of free
-//! runs are read by another rule, and each time the difference has to be seen and the book made small.
+//! Shows that a run can fail: one finding of the judge is changed, or drawn parents, the limit on parents, foreign types or
+//! the offsets of free runs are read by another rule, and each time the difference has to be seen and the book made small.
 use crate::books::values::{DIRENTS, LRU, SNAPSHOTS, T_SNAPSHOT, XATTRS};
 use crate::books::{self, Mode};
 use crate::compare::{compare_with, Counts};
 use crate::expected::{Change, Expected};
-use crate::layout::{Book, Key};
+use crate::layout::{limit, Asked, Book, Key, Limit, MOST_PARENTS};
 use crate::library::Areas;
 use crate::published::{self, once, Maps, BUCKET_BITS};
 use crate::shrink;
@@ -34,6 +34,17 @@ const PARENT_READINGS: [(&str, fn(&mut Vec<Key>)); 8] = [
     ("the whole offset is the id", |keys| keys.retain(|k| k.offset <= u32::MAX.into())),
     ("any btree counts", |keys| keys.iter_mut().for_each(|k| k.btree = SNAPSHOTS)),
     ("any type counts", |keys| keys.iter_mut().for_each(|k| k.key_type = T_SNAPSHOT)),
+];
+
+/// Other readings of refusals 12 and 13, and the keys that a difference needs.
+type Limits = (&'static str, Limit, usize);
+
+const LIMIT_READINGS: [Limits; 5] = [
+    ("4,096 entries are refused", |asked| limit(asked).or((asked.parents == MOST_PARENTS).then_some(13)), 0),
+    ("4,097 entries are taken", |asked| limit(asked).filter(|_| asked.drawn || asked.parents > MOST_PARENTS + 1), 0),
+    ("no table is too long", |asked| limit(asked).filter(|&number| number != 13), 0),
+    ("13 comes before 12", |asked| limit(Asked { drawn: false, ..asked }).or(limit(asked)), 0),
+    ("drawn parents are counted", |asked| limit(asked).or((asked.drawn && asked.keys > MOST_PARENTS).then_some(13)), MOST_PARENTS as usize + 1),
 ];
 
 /// Another reading of the rule for types: whether one is foreign to a btree, and what becomes of its key's problems.
@@ -98,6 +109,7 @@ enum Wrong {
     Parents(&'static str, fn(&mut Vec<Key>)),
     Types(Types),
     Offsets(Offsets),
+    Limits(Limits),
 }
 
 /// A wrong judge, tried on the first book of these modes where it is wrong. Only books of so many keys or more are judged wrong.
@@ -119,7 +131,8 @@ pub fn run() -> bool {
     let mut cases: Vec<Case> = Change::ALL.into_iter().flat_map(of_each_kind).collect();
     cases.extend(Change::ALL.into_iter().flat_map(in_long_books).chain(with_many_keys));
     let of_offsets = OFFSET_READINGS.map(|offsets| Case::of(&[Mode::Runs], Wrong::Offsets(offsets)));
-    cases.extend(of_parents.into_iter().chain(of_types).chain(of_offsets));
+    let of_limits = LIMIT_READINGS.map(|limits| Case { keys: limits.2, ..Case::of(&[Mode::Parents], Wrong::Limits(limits)) });
+    cases.extend(of_parents.into_iter().chain(of_types).chain(of_offsets).chain(of_limits));
     let unseen = cases.iter().filter(|case| !case.show()).count();
     println!("{} changes, {unseen} of them not seen", cases.len());
     unseen == 0
@@ -145,7 +158,8 @@ impl Case {
         seen.is_ok()
     }
 
-    /// The smallest book in which the difference is seen, or why there is none.
+    /// The smallest book in which the difference is seen, or the first where it needs thousands of keys, each of which
+    /// would be tried; or why there is none.
     fn see(&self) -> Result<Vec<u8>, String> {
         let mut all = (0..MOST_BOOKS).flat_map(|index| self.modes.iter().map(move |&mode| books::book(mode, SEED, index)));
         let first = all.find(|bytes| self.wrong(bytes).is_some()).ok_or("in no book")?;
@@ -154,6 +168,9 @@ impl Case {
             |bytes: &[u8]| self.wrong(bytes).is_some_and(|wrong| compare_with(&wrong, bytes, &[], &mut areas, &mut Counts::new()).is_err());
         if !differs(&first) {
             return Err(format!("not seen in {}", text::hex(&first)));
+        }
+        if self.keys > NEEDED_KEYS {
+            return Ok(first);
         }
         let book = shrink::smallest(first, differs);
         match Expected::of(&book).words() > 2 * self.keys.max(MOST_KEYS) {
@@ -176,7 +193,7 @@ impl Wrong {
     fn name(self) -> String {
         match self {
             Wrong::Finding(change, kind) => format!("{} of kind {kind}", change.name()),
-            Wrong::Parents(name, _) | Wrong::Types((name, ..)) | Wrong::Offsets((name, _)) => name.to_string(),
+            Wrong::Parents(name, _) | Wrong::Types((name, ..)) | Wrong::Offsets((name, _)) | Wrong::Limits((name, ..)) => name.to_string(),
         }
     }
 
@@ -199,6 +216,11 @@ impl Wrong {
             Wrong::Offsets((_, read)) => {
                 let maps = |book: &Book| Maps::over(book, published::parents(book), published::runs_by(book, read));
                 Expected::by(bytes, maps, Maps::judge)
+            }
+            Wrong::Limits((_, read, _)) => {
+                let wrong = Expected::within(bytes, read);
+                let answer = |expected: &Expected| expected.check(usize::MAX, usize::MAX).answer;
+                return (answer(&wrong) != answer(&right)).then_some(wrong);
             }
         };
         (wrong.findings() != right.findings()).then_some(wrong)

@@ -1,7 +1,7 @@
 //! Times both programs on the same books in the same run: Dockwrench whole, from bytes to findings; the published rules alone, over maps made before.
 use crate::books::values::*;
 use crate::books::{self, Mode};
-use crate::layout::{Book, Key, HEADER_BYTES, KEY_HEAD_BYTES, LONGEST_BOOK};
+use crate::layout::{Book, Key, HEADER_BYTES, KEY_HEAD_BYTES, LONGEST_BOOK, MOST_PARENTS};
 use crate::library;
 use crate::published::{self, Maps, Parents, BUCKET_BITS};
 use std::hint::black_box;
@@ -13,9 +13,12 @@ const VERSION: u16 = 1062;
 /// Lengths from which on a snapshot has a parent, has a tree, and is judged.
 const LENGTHS: [usize; 3] = [8, 24, 40];
 
-/// How long each program is run on a book in a round, and the rounds; the shortest time of all rounds counts.
+/// How long each program is run on a book in a round, and the rounds; the shortest time of all rounds counts. Of a book
+/// on which they take so long in all there are fewer.
 const ROUND: Duration = Duration::from_millis(60);
 const ROUNDS: usize = 7;
+const FEWEST_ROUNDS: usize = 3;
+const LONG: Duration = Duration::from_secs(5);
 
 /// Calls that take less are timed together.
 const BATCH: Duration = Duration::from_micros(20);
@@ -25,13 +28,13 @@ pub fn rows() -> Vec<(&'static str, Book)> {
     vec![
         ("37,000 free runs in no order", free_runs()),
         ("37,000 free runs of all ages in no order", aged(free_runs())),
-        ("13 chains of 1,000 snapshots", chains(13)),
+        ("4 chains of 1,000 snapshots", chains(4)),
         ("13 chains of 1,000 snapshots, drawn", without_table(chains(13))),
         ("15,000 keys at the foot of 1,024 links", foot()),
         ("a mixed book of 1 MiB", mixed(LONGEST_BOOK)),
         ("7,000 deleted subvolumes", deleted()),
         ("20,000 subvolume children", children()),
-        ("65,535 parents with one key", parents()),
+        ("4,096 parents with one key", parents()),
         ("a smallest book (one key)", Book { keys: vec![key(FREESPACE, T_SET, 0, 0, Vec::new())], ..empty() }),
     ]
 }
@@ -50,11 +53,29 @@ pub fn tables() -> Vec<(&'static str, Book)> {
 /// Snapshots in no order, by a table and drawn, and drawn books with many keys of an id. Values of less than 24 bytes are each a finding.
 pub fn drawn() -> Vec<(&'static str, Book)> {
     vec![
-        ("13 chains of 1,000 snapshots in no order", in_no_order(chains(13))),
+        ("4 chains of 1,000 snapshots in no order", in_no_order(chains(4))),
+        ("4 chains of 1,000 snapshots in no order, drawn", in_no_order(without_table(chains(4)))),
         ("13 chains of 1,000 snapshots in no order, drawn", in_no_order(without_table(chains(13)))),
         ("6 chains of 1,000, each id with 8, 24 and 40 bytes, in no order, drawn", in_no_order(in_lengths(without_table(chains(6))))),
         ("15,000 keys of one id, 8 bytes each, drawn", one_id(&[8])),
         ("15,000 keys of one id, 8, 24 and 40 bytes in turn, drawn", one_id(&LENGTHS)),
+    ]
+}
+
+/// Chains made to be slow, ids far from each other and keys in no order: with a table as long as it may be, and each
+/// snapshot three times, and drawn from as many keys.
+pub fn slow() -> Vec<(&'static str, Book)> {
+    let (most, deep) = (u32::from(MOST_PARENTS), 1_000);
+    let far = |links: u32| move |place: u32| place.checked_sub(if place < links { 1 } else { 100 - place % 100 + place - links });
+    vec![
+        ("each snapshot its own parent", tangle(most, 3, Some)),
+        ("each snapshot its own parent, drawn", without_table(tangle(3 * most, 1, Some))),
+        ("rings of two", tangle(most, 3, |place| Some(place ^ 1))),
+        ("rings of two, drawn", without_table(tangle(3 * most, 1, |place| Some(place ^ 1)))),
+        ("one ring of all", tangle(most, 3, |place| Some((place + 1) % most))),
+        ("one ring of all, drawn", without_table(tangle(3 * most, 1, |place| Some((place + 1) % (3 * most))))),
+        ("all below 100 snapshots at 900 links and more", tangle(most, 3, far(deep))),
+        ("all below 100 snapshots at 900 links and more, drawn", without_table(tangle(3 * most, 1, far(deep)))),
     ]
 }
 
@@ -173,6 +194,26 @@ fn chains(trees: u32) -> Book {
     book
 }
 
+/// So many snapshots, each so many times, with the parents that a rule gives their places. The root, if there is one, is at
+/// place 0; skip words name the parent.
+fn tangle(count: u32, times: usize, above: impl Fn(u32) -> Option<u32>) -> Book {
+    // a multiplication by an odd number gives each place an id of its own
+    let id = |place: u32| (place + 1).wrapping_mul(2_654_435_761);
+    let parent = |place: u32| above(place).map_or(0, id);
+    let links = |place: u32| std::iter::successors(above(place), |&at| above(at)).take(1_025).count() as u32;
+    let snapshot = |place: u32| {
+        let words = Snapshot { parent: parent(place), tree: 1, depth: links(place), skip: [parent(place); 3], ..Snapshot::default() };
+        key(SNAPSHOTS, T_SNAPSHOT, 0, u64::from(id(place)), words.value(40))
+    };
+    let mut book = Book { subvolumes: vec![(1, u32::MAX)], ..empty() };
+    book.parents = (0..count).map(|place| (id(place), parent(place))).collect();
+    sort_tables(&mut book);
+    let keys: Vec<Key> = (0..count).map(snapshot).collect();
+    book.keys = std::iter::repeat_n(keys, times).flatten().collect();
+    book.keys.push(key(TREES, T_TREE, 0, 1, tree_value(1, id(0), 8)));
+    in_no_order(book)
+}
+
 /// 28 chains of 1,024 links whose ids rise towards the root, with values of 8 bytes, and the foot of the last.
 fn upward_chains() -> (Book, u32) {
     let (chains, snapshots) = (28, 1_025);
@@ -271,9 +312,9 @@ fn children() -> Book {
     Book { mark: false, keys, ..empty() }
 }
 
-/// A parents table as long as it can be, of one chain, and the snapshot at its foot, which has no root within 1,024 links.
+/// A parents table as long as it may be, of one chain, and the snapshot at its foot, which has no root within 1,024 links.
 fn parents() -> Book {
-    let count = u32::from(u16::MAX);
+    let count = u32::from(MOST_PARENTS);
     let mut book = empty();
     book.parents = (1..=count).map(|id| (id, id - 1)).collect();
     book.keys.push(key(SNAPSHOTS, T_SNAPSHOT, 0, u64::from(count), vec![0; 40]));
@@ -299,7 +340,11 @@ pub fn times(book: &Book) -> Times {
     let answer = library::check(&bytes, &mut buffer, &mut work);
     assert_eq!((answer.number, answer.count as usize), (0, findings), "both find the same number");
     let mut best = [Duration::MAX; 4];
-    for _ in 0..ROUNDS {
+    let begin = Instant::now();
+    for done in 0..ROUNDS {
+        if done >= FEWEST_ROUNDS && begin.elapsed() > LONG {
+            break;
+        }
         best[0] = best[0].min(round(|| library::check(black_box(&bytes), &mut buffer, &mut work)));
         best[1] = best[1].min(round(|| black_box(&maps).judge()));
         best[2] = best[2].min(round(|| Maps::of(black_box(book)).judge()));

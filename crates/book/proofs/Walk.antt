@@ -52,7 +52,7 @@ unfolding bookVerdict partsVerdict placesOf bookOf parentsOf
 accepted-parts s accepted =
     let one = both-passed _ _ accepted in
     let two = both-passed _ _ (one .1) in
-    let a = both-passed _ _ (both-passed _ _ (both-passed _ _ (two .1) .1) .1) in
+    let a = both-passed _ _ (both-passed _ _ (two .1) .1) in
     let b = both-passed _ _ (a .1) in
     let c = both-passed _ _ (b .1) in
     let d = both-passed _ _ (c .1) in

@@ -1,4 +1,5 @@
--- Which bytes are a book: document 01's refusals 1 to 8 and document 02's 12, which is "tested after 3": "1, 2, 3; then entries from front to back, at each 4, 5, 6, 7; then 8".
+-- Which bytes are a book: document 01's refusals 1 to 8, "1, 2, 3; then entries from front to back, at each 4, 5, 6, 7;
+-- then 8", and document 02's 12, "tested after 3", and 13, "directly after 12".
 use Prim.Native.Nat.{ℕ, zero, suc, _+_, _-_, _/_, _%_}
 use mathlib.Core.Bool.{Bool, true, false, not, _&&_, _||_}
 use mathlib.Core.List.{List}
@@ -62,14 +63,24 @@ partsVerdict s h at =
     tableVerdict allocTable s (at .alloc) (h .alloc) (at .alloc) then
     keysVerdict (h .trees) s (h .keys) (at .keys)
 
--- 1, "book over 1,048,576 bytes"; 2, "under 32 bytes"; 3, "layout not 1, or spare header bit set"; 12, "drawn mark set with a non-zero
--- parents count"; then the parts
+-- "A parents table of 4,096 entries is taken and one of 4,097 refused"
+abbrev pub parentsMax : ℕ
+parentsMax = 4096
+
+-- 3, "layout not 1, or spare header bit set"; 12, "drawn mark set with a non-zero parents count"; 13, "parents count over
+-- 4,096": "drawn parents are not counted"
+unfoldable pub headerVerdict : Header → Verdict
+headerVerdict h =
+    refuse (not (eqb (h .layout) 1) || not (eqb (h .spare) 0)) 3 0 then
+    refuse (h .drawn && not (eqb (h .parents) 0)) 12 0 then
+    refuse (ltb parentsMax (h .parents)) 13 0
+
+-- 1, "book over 1,048,576 bytes"; 2, "under 32 bytes"; then the header, and then the parts
 unfoldable pub bookVerdict : List ℕ → Verdict
 bookVerdict s =
     refuse (ltb 1048576 (length s)) 1 0 then
     refuse (ltb (length s) headerSize) 2 0 then
-    refuse (not (eqb (headerOf s .layout) 1) || not (eqb (headerOf s .spare) 0)) 3 0 then
-    refuse (headerOf s .drawn && not (eqb (headerOf s .parents) 0)) 12 0 then
+    headerVerdict (headerOf s) then
     partsVerdict s (headerOf s) (placesOf (headerOf s))
 
 -- what bytes are as a book: the book, or a refusal's number and place
@@ -82,7 +93,7 @@ unfoldable pub outcomeOf : Verdict → Book → Outcome
 outcomeOf verdict.Passed b = accepted b
 outcomeOf (verdict.Refused number place) b = refused number place
 
--- "A book is accepted if none of 1 to 8 is given"; by 12, "a book so refused is not accepted"
+-- "A book is accepted if none of 1 to 8 is given"; by 12, "a book so refused is not accepted", and so by 13
 unfoldable pub parse : List ℕ → Outcome
 parse s = outcomeOf (bookVerdict s) (bookOf s)
 

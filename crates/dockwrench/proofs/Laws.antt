@@ -73,7 +73,7 @@ unfolding ancestorOf
 ancestor-refused (Outcome.accepted b) id e = not-refused (rootOf (parentsOf b) id) e
 ancestor-refused (Outcome.refused m p) id e = cc
 
-pub ancestor-bounds : (s : List ℕ) (id : ℕ) {m p : ℕ} → ancestorOf (parse s) id ≡ ancestor.Refused m p → (m ≤ 12) × (p ≤ 1048576)
+pub ancestor-bounds : (s : List ℕ) (id : ℕ) {m p : ℕ} → ancestorOf (parse s) id ≡ ancestor.Refused m p → (m ≤ 13) × (p ≤ 1048576)
 ancestor-bounds s id e = refused-bounds s (ancestor-refused (parse s) id e)
 
 -- the answers of the availability question
@@ -87,7 +87,7 @@ unfolding availabilityOf
 available-refused (Outcome.accepted b) id e = gone-refused _ e
 available-refused (Outcome.refused m p) id e = cc
 
-pub available-bounds : (s : List ℕ) (id : ℕ) {m p : ℕ} → availabilityOf (parse s) id ≡ availability.Refused m p → (m ≤ 12) × (p ≤ 1048576)
+pub available-bounds : (s : List ℕ) (id : ℕ) {m p : ℕ} → availabilityOf (parse s) id ≡ availability.Refused m p → (m ≤ 13) × (p ≤ 1048576)
 available-bounds s id e = refused-bounds s (available-refused (parse s) id e)
 
 -- the first i words are zero, and the others as they were
@@ -147,12 +147,12 @@ count-no-refusal : (b : Bool) (n : ℕ) {m p : ℕ} {A : Type 0} → cond b (che
 count-no-refusal true n e = let z : _≡_ {A = ℕ} 0 1 = cc in absurd (omega arith)
 count-no-refusal false n e = let z : _≡_ {A = ℕ} 0 1 = cc in absurd (omega arith)
 
-nine : (b : Bool) (room n : ℕ) {m p : ℕ} → cond b (checked.Refused 9 0) (countIn room n) ≡ checked.Refused m p → (m ≤ 12) × (p ≤ 1048576)
+nine : (b : Bool) (room n : ℕ) {m p : ℕ} → cond b (checked.Refused 9 0) (countIn room n) ≡ checked.Refused m p → (m ≤ 13) × (p ≤ 1048576)
 unfolding countIn
 nine true room n {m} {p} e = let x : 9 ≡ m = cc in let y : 0 ≡ p = cc in (omega arith, omega arith)
 nine false room n e = count-no-refusal (ltb room (17 * n)) n e
 
-bounds-by : (s : List ℕ) (room words : ℕ) (o : Outcome) → parse s ≡ o → {m p : ℕ} → checkOf o room words ≡ checked.Refused m p → (m ≤ 12) × (p ≤ 1048576)
+bounds-by : (s : List ℕ) (room words : ℕ) (o : Outcome) → parse s ≡ o → {m p : ℕ} → checkOf o room words ≡ checked.Refused m p → (m ≤ 13) × (p ≤ 1048576)
 unfolding checkOf checkBook
 bounds-by s room words (Outcome.accepted b) is e = nine (workShort b words) room (length (findingsOf b)) e
 bounds-by s room words (Outcome.refused n q) is {m} {p} e =
@@ -161,7 +161,7 @@ bounds-by s room words (Outcome.refused n q) is {m} {p} e =
     let b = refused-bounds s is in
     (omega (arith, b .0), omega (arith, b .1))
 
-pub check-bounds : (s : List ℕ) (room words : ℕ) {m p : ℕ} → checkOf (parse s) room words ≡ checked.Refused m p → (m ≤ 12) × (p ≤ 1048576)
+pub check-bounds : (s : List ℕ) (room words : ℕ) {m p : ℕ} → checkOf (parse s) room words ≡ checked.Refused m p → (m ≤ 13) × (p ≤ 1048576)
 check-bounds s room words e = bounds-by s room words (parse s) refl e
 
 same : {n p c n′ p′ c′ : ℕ} → n ≡ n′ → p ≡ p′ → c ≡ c′

@@ -9,7 +9,7 @@ use lib.ListN.{length}
 use Rattle.bits.specs.Bits.{bit, bitsAt, beAt, leAt}
 use Rattle.findings.specs.Findings.{Finding, finding, bytesOf, encode, put}
 use Rattle.book.specs.Book.{headerOf, placesOf, entryAt, dataType, tableFrom, keyHead, keyEnd, keysFrom, Book, bookOf}
-use Rattle.book.specs.Refusals.{refuse, _then_, badRest, entryVerdict, tableVerdict, keyVerdict, keysVerdict, partsVerdict, bookVerdict, Outcome, outcomeOf, parse}
+use Rattle.book.specs.Refusals.{refuse, _then_, badRest, entryVerdict, tableVerdict, keyVerdict, keysVerdict, partsVerdict, headerVerdict, bookVerdict, Outcome, outcomeOf, parse}
 use Rattle.forest.specs.Forest.{ForestBook, Sound, Demand3}
 use Rattle.rules.specs.Rules.{findingsOf}
 use Rattle.rules.proofs.Demand3.{demand-3}
@@ -78,7 +78,7 @@ bytes drawn depth = header drawn ++ (parents drawn ++ (subvolumes ++ (upper ++ (
 
 -- it is accepted, whatever the depth
 pub accepted : (drawn : Bool) (depth : ℕ) → parse (bytes drawn depth) ≡ Outcome.accepted (book drawn 0 2 1 depth 1 1)
-unfolding bytes header parents subvolumes upper tree lower book bit bitsAt leAt refuse _then_ headerOf entryAt badRest entryVerdict tableVerdict keyHead keyEnd keyVerdict keysVerdict placesOf partsVerdict bookVerdict dataType tableFrom keysFrom bookOf outcomeOf parse
+unfolding bytes header parents subvolumes upper tree lower book bit bitsAt leAt refuse _then_ headerOf entryAt badRest entryVerdict tableVerdict keyHead keyEnd keyVerdict keysVerdict placesOf partsVerdict headerVerdict bookVerdict dataType tableFrom keysFrom bookOf outcomeOf parse
 accepted true depth = refl
 accepted false depth = refl
 

@@ -68,7 +68,7 @@ unfoldable pub ancestorBy : Option (ℕ × ℕ) → Ancestor
 ancestorBy none = ancestor.NoRoot
 ancestorBy (some root) = ancestor.Root (root .0) (root .1)
 
--- the answer of the ancestor question: "refuse by 1 to 8 with the same place"; "The questions give" 12 "too"
+-- the answer of the ancestor question: "refuse by 1 to 8 with the same place"; "The questions give" 12 "too", and so 13
 unfoldable pub ancestorOf : Outcome → ℕ → Ancestor
 ancestorOf (Outcome.accepted b) id = ancestorBy (rootOf (parentsOf b) id)
 ancestorOf (Outcome.refused number place) id = ancestor.Refused number place

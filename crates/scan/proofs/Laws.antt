@@ -27,6 +27,15 @@ pub goes-on : {a b : Verdict} (c : Verdict) → a ≡ b → b ≡ Passed → (a 
 unfolding _then_
 goes-on c e h = rw (e, h)
 
+-- the same of an answer that is the first verdict, or that comes after it
+pub stopped : {v a : Verdict} (b : Verdict) {n p : ℕ} → v ≡ a → v ≡ Refused n p → v ≡ (a then b)
+unfolding _then_
+stopped b e h = rw (← e, h)
+
+pub passed-on : {v w a b : Verdict} → v ≡ a → v ≡ Passed → w ≡ b → w ≡ (a then b)
+unfolding _then_
+passed-on e h f = rw (← e, h, f)
+
 -- the first of the n entries, and those after it
 pub table-step : (t : Table) (s : List ℕ) (start n p : ℕ) → 0 < n →
     tableVerdict t s start n p ≡ (entryVerdict t s start p then tableVerdict t s start (n - 1) (p + t .size))

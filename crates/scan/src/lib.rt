@@ -1,4 +1,5 @@
-// Whether bytes are a book: document 01's refusals, by one pass over the header, the tables and the keys.
+// Whether bytes are a book: the refusals of documents 01 and 02 by the bytes, by one pass over the header, the tables
+// and the keys.
 ghost use mathlib.Core.Path.{_≡_};
 ghost use mathlib.Core.Bool.{true};
 ghost use Prim.Native.Nat.{_+_, _*_, _^_, _<_, _≤_};
@@ -11,6 +12,8 @@ ghost use Rattle.book.specs.Refusals.{
   keyVerdict,
   keysVerdict,
   partsVerdict,
+  headerVerdict,
+  _then_,
   parse,
   scanOf,
 };
@@ -433,6 +436,37 @@ fn parts_verdict(book: &[u8], h: Header, at: Places) -> Verdict
     keys_verdict(book, h.trees, h.keys, at.keys)
 }
 
+// The most entries of a parents table.
+const PARENTS_MAX: u16 = 4096;
+
+// The first refusal of a header.
+fn header_verdict(h: Header) -> Verdict
+    ensures { λ r. ⌜ r ≡ headerVerdict h ⌝ }
+{
+    if (h.layout != 1) | (h.spare != 0) {
+        return Verdict::Refused(3, 0);
+    }
+    if h.drawn & (h.parents != 0) {
+        return Verdict::Refused(12, 0);
+    }
+    if PARENTS_MAX < h.parents {
+        return Verdict::Refused(13, 0);
+    }
+    Verdict::Passed
+}
+
+// The first refusal of the header, the four tables and the keys.
+fn content_verdict(book: &[u8], h: Header, at: Places) -> Verdict
+    requires { ⌜ (length (now book) ≤ 1048576) × Near at ⌝ }
+    ensures { λ r. ⌜ r ≡ (headerVerdict h then partsVerdict (now (book .entry)) h at) ⌝ }
+{
+    let v = header_verdict(h);
+    let Verdict::Passed = v else {
+        return v;
+    };
+    parts_verdict(book, h, at)
+}
+
 // Whether the bytes are a book: the header and the places of an accepted one, or the refusal.
 pub fn scan(book: &[u8]) -> Scanned
     ensures { λ r. ⌜ r ≡ scanOf (parse (now (book .entry))) ⌝ }
@@ -444,14 +478,8 @@ pub fn scan(book: &[u8]) -> Scanned
         return Scanned::Refused(2, 0);
     }
     let h = read_header(book);
-    if (h.layout != 1) | (h.spare != 0) {
-        return Scanned::Refused(3, 0);
-    }
-    if h.drawn & (h.parents != 0) {
-        return Scanned::Refused(12, 0);
-    }
     let at = find_places(h);
-    let v = parts_verdict(book, h, at);
+    let v = content_verdict(book, h, at);
     match v {
         Verdict::Refused(number, place) => Scanned::Refused(number, place),
         Verdict::Passed => Scanned::Accepted {

@@ -1,9 +1,9 @@
-//! Damaged books: every refusal from 1 to 8, and 12.
+//! Damaged books: every refusal from 1 to 8, 12 and 13.
 
 use super::random::Random;
 use super::values::*;
 use super::{chains, drawn, forest, mixed, runs};
-use crate::layout::{Book, DRAWN_MARK, HEADER_BYTES, KEY_HEAD_BYTES, LONGEST_BOOK, LONGEST_VALUE, TREES_MARK};
+use crate::layout::{Book, DRAWN_MARK, HEADER_BYTES, KEY_HEAD_BYTES, LONGEST_BOOK, LONGEST_VALUE, MOST_PARENTS, TREES_MARK};
 
 /// The bytes of the five counts in the header: keys, parents, subvolumes, gens, alloc.
 const COUNTS: [usize; 5] = [6, 24, 26, 28, 30];
@@ -150,7 +150,7 @@ fn recount(r: &mut Random, bytes: &mut [u8]) {
     let at = r.pick(&COUNTS);
     if let Some(&[high, low]) = bytes.get(at..at + 2) {
         let count = u16::from_be_bytes([high, low]);
-        let change = r.pick(&[1, 1, 2, 0xffff, 0xffff, 0xfffe, 0x100]);
+        let change = r.pick(&[1, 1, 2, 0xffff, 0xffff, 0xfffe, 0x100, MOST_PARENTS, MOST_PARENTS]);
         bytes[at..at + 2].copy_from_slice(&count.wrapping_add(change).to_be_bytes());
     }
 }

@@ -112,7 +112,7 @@ pub fn chain(r: &mut Random) -> Book {
 }
 
 /// Adds a key that is not judged for each entry of the parents table, but in seven of eight books not for ids that a key has already.
-fn add_links(r: &mut Random, book: &mut Book) {
+pub fn add_links(r: &mut Random, book: &mut Book) {
     let judged: Vec<u64> = book.keys.iter().filter(|k| k.btree == SNAPSHOTS).map(|k| k.offset).collect();
     let (length, has_twins) = (r.pick(&UNJUDGED), r.one_in(8));
     for &(id, parent) in &book.parents {

@@ -1,4 +1,4 @@
--- `scan::scan` meets its contract: each test of the header refuses, and past them the verdict is that on the parts.
+-- `scan::scan` meets its contract: each test of the length refuses, and past them the verdict is that on the content.
 use mathlib.Core.Path.{_≡_, sym, _∙_}
 use borrow.Author.Tests.{lt-ltb, le-ltb}
 use denote.Ref.{now}
@@ -9,14 +9,12 @@ use native.Mathlib.Omega.{arith}
 use Rattle.scan.proofs.scan.Statement.{statement}
 use Rattle.scan.proofs.scan.Tie as tie
 
--- past the header's tests the verdict is that on the parts
-whole : (c : tie.After-parts-verdict) → bookVerdict (now (c .before .before .before .before .before .before .before .before .before .before .before .before .args .book)) ≡ c .parts-verdict .result
+-- past the tests of the length the verdict is that on the content
+whole : (c : tie.After-content-verdict) → bookVerdict (now (c .before .before .before .before .before .before .args .book)) ≡ c .content-verdict .result
 unfolding bookVerdict _then_ refuse
 whole c =
-    let header = rw (c .before .before .before .before .before .before .before .before .read-header .ensures) at (c .before .before .before .before .before .if3 .left) in
-    let mark = rw (c .before .before .before .before .before .before .before .before .read-header .ensures) at (c .before .before .if4 .left) in
-    let parts = rw (c .before .find-places .ensures .0, c .before .before .before .before .before .before .before .before .read-header .ensures) at (c .parts-verdict .ensures) in
-    simp (le-ltb _ _ (c .before .before .before .before .before .before .before .before .before .before .if1 .left), le-ltb _ _ (c .before .before .before .before .before .before .before .before .before .if2 .left), header, mark) (sym parts)
+    let content = rw (c .before .find-places .ensures .0, c .before .before .read-header .ensures) at (c .content-verdict .ensures) in
+    simp (le-ltb _ _ (c .before .before .before .before .if1 .left), le-ltb _ _ (c .before .before .before .if2 .left)) (sym content)
 
 returns : tie.Need-returns
 unfolding bookVerdict _then_ refuse
@@ -27,25 +25,12 @@ unfolding bookVerdict _then_ refuse
 returns-2 c = sym (scan-refused (now (c .before .before .before .args .book)) (simp (le-ltb _ _ (c .before .if1 .left), lt-ltb _ _ (c .if2 .taken))))
 
 returns-3 : tie.Need-returns-3
-unfolding bookVerdict _then_ refuse
-returns-3 c =
-    let header = rw (c .before .before .before .read-header .ensures) at (c .if3 .taken) in
-    sym (scan-refused (now (c .before .before .before .before .before .before .before .args .book)) (simp (le-ltb _ _ (c .before .before .before .before .before .if1 .left), le-ltb _ _ (c .before .before .before .before .if2 .left), header)))
+returns-3 c = sym (scan-refused (now (c .before .before .before .before .before .before .before .before .before .args .book)) (whole (c .before .before .before) ∙ c .before .v .given .1))
 
 returns-4 : tie.Need-returns-4
-unfolding bookVerdict _then_ refuse
 returns-4 c =
-    let header = rw (c .before .before .before .before .before .before .read-header .ensures) at (c .before .before .before .if3 .left) in
-    let mark = rw (c .before .before .before .before .before .before .read-header .ensures) at (c .if4 .taken) in
-    sym (scan-refused (now (c .before .before .before .before .before .before .before .before .before .before .args .book)) (simp (le-ltb _ _ (c .before .before .before .before .before .before .before .before .if1 .left), le-ltb _ _ (c .before .before .before .before .before .before .before .if2 .left), header, mark)))
-
-returns-5 : tie.Need-returns-5
-returns-5 c = sym (scan-refused (now (c .before .before .before .before .before .before .before .before .before .before .before .before .before .before .before .args .book)) (whole (c .before .before .before) ∙ c .before .v .given .1))
-
-returns-6 : tie.Need-returns-6
-returns-6 c =
-    rw (c .before .before .before .find-places .ensures .0, c .before .before .before .before .before .before .before .before .before .before .read-header .ensures)
-    (sym (scan-accepted (now (c .before .before .before .before .before .before .before .before .before .before .before .before .before .before .args .book)) (whole (c .before .before) ∙ c .enum-told .given .1)))
+    rw (c .before .before .before .find-places .ensures .0, c .before .before .before .before .read-header .ensures)
+    (sym (scan-accepted (now (c .before .before .before .before .before .before .before .before .args .book)) (whole (c .before .before) ∙ c .enum-told .given .1)))
 
 pub scan-spec : {M : Type 1} → statement M
 scan-spec =
@@ -54,11 +39,9 @@ scan-spec =
     returns
     returns-2
     (λ c κs. search needs)
-    returns-3
-    returns-4
     (λ c κs. search needs)
     (λ c κs. (omega arith, c .find-places .ensures .1))
     (λ c. search needs)
     (λ c. search needs)
-    returns-5
-    returns-6)
+    returns-3
+    returns-4)
