@@ -40,18 +40,60 @@ pub struct Line {
     pub near: usize,
 }
 
-// The ids above `id`, repeats included, and its root.
-pub fn ancestors_of(book: &[u8], work: &[u64], source: Source, id: u32) -> Ancestors
-    requires { ⌜ Sourced (now book) (now work) source ⌝ }
+// The place from which the parent of the id at place `here` is looked for: where it was found before, if that is known,
+// else `here`. A hint is that place plus one, or 0 where it is not known. Any numbers may stand there: of the place
+// only its bound is promised, and no answer depends on a hint.
+fn near_parent(hints: &[u16], here: usize, reach: usize) -> usize
+    requires { ⌜ here ≤ reach ⌝ }
+    ensures { λ r. ⌜ r ≤ reach ⌝ }
+{
+    if hints.len() <= here {
+        return here;
+    }
+    let hint = hints[here] as usize;
+    if hint == 0 {
+        return here;
+    }
+    if reach < hint {
+        return here;
+    }
+    hint - 1
+}
+
+// Notes that the parent of the id at place `here` was found at place `at`; places that no hint can hold are left out.
+fn put_hint(hints: &mut [u16], here: usize, at: usize) {
+    if hints.len() <= here {
+        return;
+    }
+    if at < 65535 {
+        hints[here] = (at + 1) as u16;
+    }
+}
+
+// The ids above `id`, repeats included, and its root. `id` is looked for from the place `near`, and each id above it
+// from where it was found before, by the hints; `below` is the place of the id before, and at first of none.
+pub fn ancestors_of(
+    book: &[u8],
+    work: &[u64],
+    source: Source,
+    near: usize,
+    id: u32,
+    hints: &mut [u16],
+) -> Ancestors
+    requires { ⌜ Sourced (now book) (now work) source × (near ≤ reachOf source) ⌝ }
     ensures { λ r. ⌜ r ≡ ancestorsOf (parentsOf (bookOf (now (book .entry)))) id ⌝ }
 {
     let mut ids = [0u32; 1024];
     let mut len: usize = 0;
     let mut at = id;
-    let mut near = reach(source);
+    let far = reach(source);
+    let mut below = far;
+    let mut from = near;
     loop {
-        let found = parent_in(book, work, source, near, at);
-        near = found.at;
+        let found = parent_in(book, work, source, from, at);
+        put_hint(hints, below, found.at);
+        below = found.at;
+        from = near_parent(hints, below, far);
         let parent = found.word;
         let MaybeU32::Is(p) = parent else {
             let root = Root::NoRoot;
@@ -169,7 +211,7 @@ fn with_links(root: Root, links: u32) -> Root
     }
 }
 
-// The line of `id`, by a walk of its chain; `near` is a place near its own where the parents are found.
+// The line of `id`, by a walk of its chain with hints; `near` is a place near its own where the parents are found.
 pub fn line_of(
     book: &[u8],
     work: &[u64],
@@ -177,12 +219,13 @@ pub fn line_of(
     near: usize,
     id: u32,
     ids: &mut [u32; 1024],
+    hints: &mut [u16],
 ) -> Line
     requires { ⌜ Sourced (now book) (now work) source × (near ≤ reachOf source) ⌝ }
     ensures lined { λ r. ⌜ Lined (parentsOf (bookOf (now (book .entry)))) (now (ids .exit)) r ⌝ }
     ensures same { λ r. ⌜ (r .id ≡ id) × (r .near ≤ reachOf source) ⌝ }
 {
-    let above = ancestors_of(book, work, source, id);
+    let above = ancestors_of(book, work, source, near, id, hints);
     let all = above.ids;
     *ids = all;
     let root = above.root;
@@ -205,6 +248,7 @@ fn line_under(
     id: u32,
     p: u32,
     ids: &mut [u32; 1024],
+    hints: &mut [u16],
 ) -> Line
     requires { ⌜ Sourced (now book) (now work) source × Lined (parentsOf (bookOf (now book))) (now ids) line × (near ≤ reachOf source) ⌝ }
     requires { ⌜ (lookup id (parentsOf (bookOf (now book))) ≡ some p) × (0 < p) ⌝ }
@@ -232,7 +276,7 @@ fn line_under(
             near,
         };
     }
-    line_of(book, work, source, near, id, ids)
+    line_of(book, work, source, near, id, ids, hints)
 }
 
 // The line of `id` from that of another snapshot, by the parent of `id`.
@@ -243,6 +287,7 @@ fn line_by_parent(
     line: Line,
     id: u32,
     ids: &mut [u32; 1024],
+    hints: &mut [u16],
 ) -> Line
     requires { ⌜ Sourced (now book) (now work) source × Lined (parentsOf (bookOf (now book))) (now ids) line × (line .near ≤ reachOf source) ⌝ }
     ensures lined { λ r. ⌜ Lined (parentsOf (bookOf (now (book .entry)))) (now (ids .exit)) r ⌝ }
@@ -267,7 +312,7 @@ fn line_by_parent(
             near,
         };
     }
-    line_under(book, work, source, line, near, id, p, ids)
+    line_under(book, work, source, line, near, id, p, ids, hints)
 }
 
 // The line of `id` from that of another snapshot: of the same, or of a child with a root, from which the first id is taken away; else by the
@@ -279,6 +324,7 @@ pub fn line_beside(
     line: Line,
     id: u32,
     ids: &mut [u32; 1024],
+    hints: &mut [u16],
 ) -> Line
     requires { ⌜ Sourced (now book) (now work) source × Lined (parentsOf (bookOf (now book))) (now ids) line × (line .near ≤ reachOf source) ⌝ }
     ensures lined { λ r. ⌜ Lined (parentsOf (bookOf (now (book .entry)))) (now (ids .exit)) r ⌝ }
@@ -300,5 +346,5 @@ pub fn line_beside(
             near: line.near,
         };
     }
-    line_by_parent(book, work, source, line, id, ids)
+    line_by_parent(book, work, source, line, id, ids, hints)
 }

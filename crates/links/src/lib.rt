@@ -336,6 +336,7 @@ fn show_snapshot(
     f: KeyFront,
     line: Line,
     ids: &mut [u32; 1024],
+    hints: &mut [u16],
     out: &mut [u8],
     counts: &mut [u64],
     m: usize,
@@ -349,20 +350,21 @@ fn show_snapshot(
     if ((f.btree == 9) & (f.key_type == 22)) & (40 <= f.len) {
         let id = drawn::key_id(book, p, f);
         let source = source_of(h, at, n);
-        let next = ancestors::line_beside(book, work, source, line, id, ids);
+        let next = ancestors::line_beside(book, work, source, line, id, ids, hints);
         let found = show_links(book, h, at, work, n, p, f, next, ids, out, counts, m);
         return Shown { found, line: next };
     }
     Shown { found: m, line }
 }
 
-// The findings of the snapshots, in key order.
-fn show_snapshots(
+// The findings of the snapshots, in key order. The hints say where a walk up a chain found its parents before.
+fn walk_snapshots(
     book: &[u8],
     h: Header,
     at: Places,
     work: &[u64],
     n: usize,
+    hints: &mut [u16],
     out: &mut [u8],
     counts: &mut [u64],
 ) -> usize
@@ -372,7 +374,7 @@ fn show_snapshots(
 {
     let mut ids = [0u32; 1024];
     let source = source_of(h, at, n);
-    let mut line = ancestors::line_of(book, work, source, 0, 0, &mut ids);
+    let mut line = ancestors::line_of(book, work, source, 0, 0, &mut ids, hints);
     let mut found: usize = 0;
     let mut left = h.keys;
     let mut p = at.keys;
@@ -388,6 +390,7 @@ fn show_snapshots(
             f,
             line,
             &mut ids,
+            hints,
             out,
             counts,
             found,
@@ -398,6 +401,48 @@ fn show_snapshots(
         left -= 1;
     }
     found
+}
+
+// The same, with room for a hint for each entry of a parents table, of which there are 4,096 at most.
+fn walk_with_hints(
+    book: &[u8],
+    h: Header,
+    at: Places,
+    work: &[u64],
+    n: usize,
+    out: &mut [u8],
+    counts: &mut [u64],
+) -> usize
+    requires { ⌜ Ready (now book) h at (now work) n ⌝ }
+    ensures found { λ r. ⌜ Found (sink (now (out .entry)) (now (counts .entry))) (each (λ _ k. only (holds 9 22 40 k) (linkFindings (bookOf (now (book .entry))) k)) 0 (bookOf (now (book .entry)) .keys)) r (sink (now (out .exit)) (now (counts .exit))) ⌝ }
+    ensures few { λ r. ⌜ r ≤ h .keys * 6 ⌝ }
+{
+    let mut hints = [0u16; 4096];
+    walk_snapshots(book, h, at, work, n, &mut hints, out, counts)
+}
+
+// Tables of fewer entries are searched without hints: to clear these would take longer than the searches.
+const FEW_PARENTS: u16 = 64;
+
+// The findings of the snapshots, in key order; those of a drawn book, which has no parents table, without hints.
+fn show_snapshots(
+    book: &[u8],
+    h: Header,
+    at: Places,
+    work: &[u64],
+    n: usize,
+    out: &mut [u8],
+    counts: &mut [u64],
+) -> usize
+    requires { ⌜ Ready (now book) h at (now work) n ⌝ }
+    ensures found { λ r. ⌜ Found (sink (now (out .entry)) (now (counts .entry))) (each (λ _ k. only (holds 9 22 40 k) (linkFindings (bookOf (now (book .entry))) k)) 0 (bookOf (now (book .entry)) .keys)) r (sink (now (out .exit)) (now (counts .exit))) ⌝ }
+    ensures few { λ r. ⌜ r ≤ h .keys * 6 ⌝ }
+{
+    if h.parents < FEW_PARENTS {
+        let mut none = [0u16; 0];
+        return walk_snapshots(book, h, at, work, n, &mut none, out, counts);
+    }
+    walk_with_hints(book, h, at, work, n, out, counts)
 }
 
 // The finding of a tree's subvolume: it is not there, or its snapshot is in another tree.

@@ -4,12 +4,12 @@ use mathlib.Core.Path.{_≡_, refl, sym, ap, _∙_}
 use mathlib.Core.List.{List}
 use mathlib.Core.Option.{none, some}
 use mathlib.Core.Logic.{⊎-elim}
-use native.Mathlib.Nat.{not-suc-le-zero, le-of-suc-le-suc, eq-or-lt-of-le, mul-le-mul-right, lt-of-lt-of-le}
+use native.Mathlib.Nat.{not-suc-le-zero, le-of-suc-le-suc, eq-or-lt-of-le, mul-le-mul-right, le-refl, lt-of-lt-of-le}
 use native.Mathlib.Omega.{arith}
 use lib.ListN.{length, getD}
 use Rattle.bits.specs.Bits.{beAt}
 use Rattle.search.specs.Bound.{LowerBound, Bracket}
-use Rattle.search.proofs.Bracket.{NotFalling, rising-order, le-or-lt}
+use Rattle.search.proofs.Bracket.{NotFalling, rising-order, le-or-lt, bracket-all, bracket-down}
 use Rattle.book.specs.declared.Table.{Table}
 use Rattle.book.specs.Maps.{lookup, lowerBound}
 use Rattle.book.specs.Book.{wordsTable, allocTable, entryAt, tableFrom}
@@ -30,6 +30,12 @@ pub bracket-from : {t : Table} {s : List ℕ} {start n x low high : ℕ} → Ris
 bracket-from r b m l h =
     let i = b .inside in
     record { ordered = omega arith; inside = i; below = λ k e. lt-of-lt-of-le (r .rises k m e (omega arith)) h; above = b .above }
+
+-- an entry that is x stands at its place
+pub bracket-here : {t : Table} {s : List ℕ} {start n x : ℕ} → Rising t s start n → (m : ℕ) → m < n → firstAt t s start m ≡ x →
+    Bracket (firstAt t s start) n x m m
+bracket-here r m l e =
+    bracket-down _ _ _ _ _ m (rising-first r) (bracket-from r (bracket-all _ _ _) m l (omega (arith, e))) (le-refl m) l (omega (arith, e))
 
 -- a word that was read is the first field of entry i
 pub word-first : (s : List ℕ) → ((j : ℕ) → getD s j 0 < 256) → (start i : ℕ) {w : ℕ} → w ≡ beAt s (start + i * 8) 4 → w ≡ firstAt wordsTable s start i

@@ -101,7 +101,8 @@ fn window_down(book: &[u8], start: usize, count: usize, to: usize, x: u32) -> Wi
     Window { low: 0, high }
 }
 
-// A window with the place of `x`, found from entry `near` upwards or downwards; of all entries, where `near` is their count.
+// A window with the place of `x`: that of entry `near` alone, where this is `x`, else found from there upwards or
+// downwards; of all entries, where `near` is their count.
 fn window_near(book: &[u8], start: usize, count: usize, near: usize, x: u32) -> Window
     requires { ⌜ Rising wordsTable (now book) start count × (near ≤ count) ⌝ }
     ensures { λ r. ⌜ Bracket (firstAt wordsTable (now (book .entry)) start) count x (r .low) (r .high) ⌝ }
@@ -113,7 +114,14 @@ fn window_near(book: &[u8], start: usize, count: usize, near: usize, x: u32) -> 
         };
     }
     let at = start + near * 8;
-    if bits::be32(book, at) < x {
+    let first = bits::be32(book, at);
+    if first == x {
+        return Window {
+            low: near,
+            high: near,
+        };
+    }
+    if first < x {
         return window_up(book, start, count, near + 1, x);
     }
     window_down(book, start, count, near, x)

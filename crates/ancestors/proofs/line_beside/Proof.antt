@@ -14,8 +14,8 @@ use Rattle.ancestors.proofs.line_beside.Statement.{statement}
 use Rattle.ancestors.proofs.line_beside.Tie as tie
 
 -- what the test for a child says
-test : (c : tie.Then2) → let l = c .before .before .before .before .before .before .before .before .args .line in
-    (isRooted (l .root) ≡ true) × (0 < l .len) × (getD (c .before .before .before .before .before .before .before .before .args .ids .now) 0 0 ≡ c .before .before .before .before .before .before .before .before .args .id)
+test : (c : tie.Then2) → let l = c .before .before .before .before .before .before .before .before .before .args .line in
+    (isRooted (l .root) ≡ true) × (0 < l .len) × (getD (c .before .before .before .before .before .before .before .before .before .args .ids .now) 0 0 ≡ c .before .before .before .before .before .before .before .before .before .args .id)
 test c =
     let whole = both-true _ _ (c .if2 .taken) in
     let both = both-true _ _ (whole .0) in
@@ -24,7 +24,7 @@ test c =
 returns-2 : tie.Need-returns-2
 returns-2 c =
     let k = c .before .before .before .before in
-    let t = k .before .before .before .before .before .before .before .before in
+    let t = k .before .before .before .before .before .before .before .before .before in
     let said = test k in
     let taken = c .before .take-first .ensures in
     (lined-up _ (t .pre .1) (said .0) (said .1) (said .2) (taken .0) (taken .1) (c .with-links .ensures), (refl, t .pre .2))
@@ -38,10 +38,11 @@ line-beside-spec =
     (λ c. search needs)
     (λ c. omega (arith, test (c .before) .1))
     (λ c κs.
-    let t = c .before .before .before .before .before .before .before .before .before .before in
+    let t = c .before .before .before .before .before .before .before .before .before .before .before in
     (omega (arith, test (c .before .before) .1, lined-few _ (t .pre .1)), t .pre .1 .full))
-    (λ c. let t = c .before .before .before .before .before .before .before .before .before .before .before in omega (arith, lined-few _ (t .pre .1)))
+    (λ c. let t = c .before .before .before .before .before .before .before .before .before .before .before .before in omega (arith, lined-few _ (t .pre .1)))
     (λ c κs. search needs)
     returns-2
     (λ c κs. search needs)
+    (λ c. search needs)
     (λ c. search needs))

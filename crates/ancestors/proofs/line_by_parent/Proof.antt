@@ -11,22 +11,22 @@ use Rattle.ancestors.proofs.line_by_parent.Tie as tie
 returns : tie.Need-returns
 returns c =
     let f = c .before .before in
-    let t = f .before .before .before in
+    let t = f .before .before .before .before in
     (lined-absent _ _ (t .pre .1 .full) _ _ (absent-is _ _ (f .parent-in .ensures .0) (c .enum-told .given .1)), (refl, f .parent-in .ensures .1))
 
 returns-2 : tie.Need-returns-2
 returns-2 c =
     let k = c .before .before in
     let f = k .before .before in
-    let t = f .before .before .before in
+    let t = f .before .before .before .before in
     (lined-top _ _ (t .pre .1 .full) _ _ (top-is _ _ (f .parent-in .ensures .0) (k .parent .given .1) (c .if1 .taken)), (refl, f .parent-in .ensures .1))
 
 line-under-requires : tie.Need-line-under-requires
 line-under-requires c κs =
-    let e = c .before in
+    let e = c .before .before in
     let k = e .before .before in
     let f = k .before .before in
-    let t = f .before .before .before in
+    let t = f .before .before .before .before in
     ((t .pre .0, t .pre .1, f .parent-in .ensures .1), (word-is _ (sym (f .parent-in .ensures .0) ∙ k .parent .given .1), omega (arith, e .if1 .left)))
 
 pub line-by-parent-spec : {M : Type 1} → statement M
@@ -39,4 +39,5 @@ line-by-parent-spec =
     returns
     returns-2
     line-under-requires
+    (λ c. search needs)
     (λ c. search needs))

@@ -11,4 +11,5 @@ line-of-spec =
     tie.close
     (tie.spec
     (λ c κs. search needs)
-    (λ c. (lined-new _ _ _ (c .before .ancestors-of .ensures), (refl, omega arith))))
+    (λ c. search needs)
+    (λ c. (lined-new _ _ _ (c .before .before .before .ancestors-of .ensures), (refl, omega arith))))

@@ -20,13 +20,13 @@ up c = link-to _ _ (c .pre .1 .0) (λ e. omega (arith, c .pre .1 .1))
 returns : tie.Need-returns
 returns c =
     let m = c .before .before .before in
-    let t = m .before .before .before .before .before in
+    let t = m .before .before .before .before .before .before in
     let put = c .before .put-first .ensures in
     (lined-down _ (t .pre .0 .1) (up t) (m .before .if1 .taken) (m .one-longer .ensures) (put .0) (put .1) (c .root-below .ensures), (refl, t .pre .0 .2))
 
 returns-2 : tie.Need-returns-2
 returns-2 c =
-    let t = c .before .before .before .before .before .before in
+    let t = c .before .before .before .before .before .before .before in
     let both = both-true _ _ (c .if2 .taken) in
     (lined-beside _ (t .pre .0 .1) (up t) (ltb-true _ _ (both .0)) (eqb-true _ _ (both .1)), (refl, t .pre .0 .2))
 
@@ -41,4 +41,5 @@ line-under-spec =
     (λ c. search needs)
     returns-2
     (λ c κs. search needs)
+    (λ c. search needs)
     (λ c. search needs))
