@@ -56,8 +56,8 @@ extern "C" {
  *
  * The parents of snapshots are those of the parents table, or in a drawn book (dockwrench_drawn) those that the keys
  * name: each key of btree 9 and type 22 with 8 value bytes or more gives the id in its offset's low 32 bits the parent
- * in bytes 4 to 7 of its value, least significant first. Of keys with one id the last gives the parent. A drawn book
- * may have any number of snapshots.
+ * in bytes 4 to 7 of its value, least significant first. Of keys with one id the last gives the parent. They are not
+ * counted: a drawn book may have more than 4,096 snapshots.
  */
 uint64_t dockwrench_check(const uint8_t *book, size_t bytes, uint8_t *findings, size_t room, uint64_t *work, size_t words);
 
