@@ -79,10 +79,8 @@ static const struct {
     {"bucket_incorrectly_unset_in_freespace_btree", "bucket @ is free by its alloc key, but no free run holds it"},
     {"hole_in_alloc_btree_missing_in_freespace_btree",
      "buckets @ to #, the last not included, have no alloc key, and no free run holds them"},
-    {"snapshot_missing_in_parent", "snapshot @ has the parent #, which does not name it as a child"},
-    {"snapshot_child_duplicate", "snapshot @ names the child # twice"},
 };
-_Static_assert(sizeof kinds / sizeof *kinds == 53, "a name and a meaning for each of the kinds 1 to 52");
+_Static_assert(sizeof kinds / sizeof *kinds == 51, "a name and a meaning for each of the kinds 1 to 50");
 
 /* The state words of snapshots and of subvolumes; no word is in both. */
 static const struct {

@@ -37,8 +37,7 @@ extern "C" {
  * every word of the work area is zero, however many were lent. An answer 0 with count 0 says that no rule found
  * anything. The links between snapshots are judged only where the book's trees mark is set (dockwrench_trees), and that
  * nothing is found there says that the snapshots are sound only in a forest book (README.md, "What an empty list
- * means"). In a forest book without the forest kinds (39, 41, 42, 44, 45), 51 and 52, those of a snapshot's child words
- * that are not 0 are its children, each once, and no snapshot has three. Otherwise it is a refusal
+ * means"). Otherwise it is a refusal
  *
  *    1   over 1,048,576 bytes                              place 0
  *    2   under 32 bytes                                    place 0

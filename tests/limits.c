@@ -12,8 +12,6 @@
 #define LINKS 1024   /* to a root at most */
 #define CHAINS 15    /* of so many links in the longest book */
 #define NO_ORDER 389 /* as a stride: prime to each number of snapshots here */
-#define SNAPSHOT_KEY 68
-#define BUSH 15419 /* snapshots of one drawn tree in the longest book but for some bytes */
 
 static uint8_t findings[ROOM + BEYOND];
 static uint64_t work[WORDS + BEYOND];
@@ -355,109 +353,6 @@ static void longest_forest(const char *what, uint32_t stride) {
     ancestor(what, snapshots + 1);
 }
 
-/* ---- children */
-
-/* Clears the child words of a forest, so that no snapshot is named by its parent. */
-static void disown(const struct forest *forest) {
-    uint32_t snapshots = forest->trees * (forest->links + 1);
-    for (uint32_t i = 1; i <= snapshots; i++)
-        memset(book + end - (size_t)i * SNAPSHOT_KEY + KEY_HEAD + 8, 0, 8);
-}
-
-/* Chains, as long and as many as may be, of which nobody is named by its parent. */
-static void unnamed(const char *what, unsigned marks, uint32_t trees, uint32_t links, uint32_t stride) {
-    struct forest forest = {TREES | marks, trees, links, 1, stride};
-    write_forest(&forest);
-    disown(&forest);
-    check(what, end);
-}
-
-/* A snapshot of tree 1, which is a root if it has no parent, and else below one. */
-static void snapshot(uint32_t id, uint32_t parent, uint32_t first_child, uint32_t second_child) {
-    key(9, 22, SNAPSHOT_KEY - KEY_HEAD, id);
-    le32(0); /* flags */
-    le32(parent);
-    le32(first_child);
-    le32(second_child);
-    le32(0); /* subvolume */
-    le32(1); /* tree */
-    le32(parent != 0); /* depth */
-    end += 12; /* skip */
-}
-
-/* A book of one tree up to its snapshots: a root and its children. Their ids start at 1, and the root has the last. */
-static void write_bush(unsigned marks, uint32_t snapshots) {
-    uint32_t parents = marks & DRAWN ? 0 : snapshots;
-    header(TREES | marks, 0, parents, 1);
-    for (uint32_t id = 1; id <= parents; id++)
-        entry(id, id < snapshots ? snapshots : 0);
-    entry(1, snapshots); /* its subvolume */
-    key(15, 31, 8, 1);
-    le32(1);
-    le32(snapshots);
-}
-
-/* How many snapshots fit behind what is written. They are counted in the header, with the tree record. */
-static uint32_t count_snapshots(void) {
-    uint32_t count = (uint32_t)((DOCKWRENCH_BOOK_MAX - end) / SNAPSHOT_KEY);
-    put16(book + 6, count + 1);
-    return count;
-}
-
-/* A book full of the keys of a root and its children, which take turns in them. The root names its first child and its
-   last. */
-static void bush(const char *what, unsigned marks, uint32_t snapshots, uint32_t stride) {
-    write_bush(marks, snapshots);
-    uint32_t count = count_snapshots();
-    for (uint64_t i = 0; i < count; i++) {
-        uint32_t id = (uint32_t)(i * stride % snapshots) + 1;
-        if (id < snapshots)
-            snapshot(id, snapshots, 0, 0);
-        else
-            snapshot(id, 0, 1, snapshots - 1);
-    }
-    check(what, end);
-}
-
-/* Snapshot 1 and its parent 2: a book full of keys of 1, and behind them one of 2. */
-static void one_child(const char *what, unsigned marks) {
-    write_bush(marks, 2);
-    for (uint32_t i = count_snapshots(); i > 1; i--)
-        snapshot(1, 2, 0, 0);
-    snapshot(2, 0, 0, 0);
-    check(what, end);
-}
-
-/* The same, full of keys of 2, which name 1 twice, but for the last, which names nobody. */
-static void one_parent(const char *what, unsigned marks) {
-    write_bush(marks, 2);
-    uint32_t count = count_snapshots();
-    snapshot(1, 2, 0, 0);
-    for (uint32_t i = 2; i < count; i++)
-        snapshot(2, 0, 1, 1);
-    snapshot(2, 0, 0, 0);
-    check(what, end);
-}
-
-static void children(void) {
-    unnamed("4 chains, nobody named, in rising order", 0, 4, DOCKWRENCH_PARENTS_MAX / 4 - 1, 1);
-    unnamed("4 chains, nobody named, in no order", 0, 4, DOCKWRENCH_PARENTS_MAX / 4 - 1, NO_ORDER);
-    unnamed("15 drawn chains, nobody named, in rising order", DRAWN, CHAINS, LINKS, 1);
-    unnamed("15 drawn chains, nobody named, in no order", DRAWN, CHAINS, LINKS, NO_ORDER);
-    bush("4095 children, in turns and rising order", 0, DOCKWRENCH_PARENTS_MAX, 1);
-    bush("4095 children, in turns and no order", 0, DOCKWRENCH_PARENTS_MAX, NO_ORDER);
-    bush("15418 drawn children in rising order", DRAWN, BUSH, 1);
-    bush("15418 drawn children in no order", DRAWN, BUSH, NO_ORDER);
-    bush("3 children, in turns", 0, 4, 1);
-    bush("3 drawn children, in turns", DRAWN, 4, 1);
-    bush("1 child, in turns with its parent", 0, 2, 1);
-    bush("1 drawn child, in turns with its parent", DRAWN, 2, 1);
-    one_child("keys of one child", 0);
-    one_child("drawn keys of one child", DRAWN);
-    one_parent("keys of one parent", 0);
-    one_parent("drawn keys of one parent", DRAWN);
-}
-
 static void states(void) {
     header(0, 6, 0, 0);
     subvolume(2, 0x2d358e8f);              /* unlinked */
@@ -502,7 +397,6 @@ int main(void) {
     most_parents("in no order", NO_ORDER);
     longest_forest("15 drawn chains in rising order", 1);
     longest_forest("15 drawn chains in no order", NO_ORDER);
-    children();
     states();
     deleted();
     return 0;

@@ -1,5 +1,5 @@
 /*
- * stack BOOK ..: how much stack the three entries take, over the book files that are named and over seven books
+ * stack BOOK ..: how much stack the three entries take, over the book files that are named and over six books
  * made here. Each call runs in a thread whose stack held one byte everywhere; from the lowest byte that is another one
  * afterwards up to the calling function, the stack was taken. Writes the most that a call took; where that is more than
  * DOCKWRENCH_STACK of include/dockwrench.h, the exit status is 1.
@@ -15,7 +15,6 @@
 #define KEYS 37448 /* without values, in the longest book */
 #define ALLOC 520  /* alloc entries enough for the rule on free runs to mark them, in the place of half as many keys */
 #define PARENTS 29124 /* drawn, beside a tree record in the longest book but for some bytes */
-#define SNAPSHOTS 15416 /* the same in values of 40 bytes, which the rule on chains reads */
 #define FILL 0xa5
 
 static uint8_t findings[DOCKWRENCH_FINDING_BYTES];
@@ -101,15 +100,14 @@ static void runs(unsigned alloc) {
     measure();
 }
 
-/* As many snapshots as a book holds, by ids of 32 bits, whose drawn parent is 0, or 1, which names none of them. */
-static void parents(uint64_t snapshots, unsigned value_length, uint8_t parent) {
-    header(TREES | DRAWN, snapshots + 1, 0, 0);
+/* As many drawn parents as a book holds, by ids of 32 bits. */
+static void parents(void) {
+    header(TREES | DRAWN, PARENTS + 1, 0, 0);
     key(15, 31, 8, 1);
     end += 8;
-    for (uint64_t i = 0; i < snapshots; i++) {
-        key(9, 22, value_length, (badly(i, snapshots) << 17) + 1);
-        book[end + 4] = parent;
-        end += value_length;
+    for (uint64_t i = 0; i < PARENTS; i++) {
+        key(9, 22, 8, (badly(i, PARENTS) << 17) + 1);
+        end += 8;
     }
     measure();
 }
@@ -128,8 +126,7 @@ int main(int argc, char **argv) {
     chain(DRAWN, 1, 1);
     runs(0);
     runs(ALLOC);
-    parents(PARENTS, 8, 0);
-    parents(SNAPSHOTS, 40, 1);
+    parents();
     for (int i = 1; i < argc; i++) {
         read_book(argv[i]);
         measure();

@@ -2,7 +2,6 @@
 
 mod bushes;
 mod chains;
-mod children;
 mod damaged;
 mod drawn;
 mod fields;
@@ -36,7 +35,6 @@ pub enum Mode {
     DrawnForest = 10,
     DrawnChains = 11,
     Parents = 12,
-    Children = 13,
 }
 
 /// The numbers from which the asked ids of all modes are drawn, beside those of the modes.
@@ -45,7 +43,7 @@ const ASKED: u64 = 6;
 const FEWEST: u64 = 10;
 
 impl Mode {
-    pub const ALL: [Mode; 13] = [
+    pub const ALL: [Mode; 12] = [
         Mode::Mixed,
         Mode::Forest,
         Mode::Chains,
@@ -54,7 +52,6 @@ impl Mode {
         Mode::Short,
         Mode::Drawn,
         Mode::DrawnForest,
-        Mode::Children,
         Mode::DrawnChains,
         Mode::Parents,
         Mode::Bushes,
@@ -75,7 +72,6 @@ impl Mode {
             Mode::DrawnForest => "drawn_forest",
             Mode::DrawnChains => "drawn_chains",
             Mode::Parents => "parents",
-            Mode::Children => "children",
         }
     }
 
@@ -110,7 +106,6 @@ pub fn book(mode: Mode, seed: u64, index: u64) -> Vec<u8> {
         Mode::DrawnForest => drawn::forest(r).encode(),
         Mode::DrawnChains => drawn::chain(r).encode(),
         Mode::Parents => parents::book(r),
-        Mode::Children => children::book(r).encode(),
     }
 }
 

@@ -2,23 +2,20 @@
 use crate::books::{self, Mode};
 use crate::expected::Expected;
 use crate::library::{self, Areas, FINDING_BYTES};
-use crate::published::LAST_KIND;
 use crate::shrink;
 use crate::states;
 use std::sync::atomic::{AtomicBool, Ordering};
 
 /// How many numbers an answer may have: 0 to 13.
 const NUMBERS: usize = 14;
-/// How many places an array by kind has; that of 0 is not used.
-const KINDS: usize = LAST_KIND as usize + 1;
 
 /// How often each kind and each number of an answer was reached.
 #[derive(Clone)]
 pub struct Counts {
     pub books: u64,
     pub accepted: u64,
-    /// By kind, from 1: in how many books it was found.
-    pub kinds: [u64; KINDS],
+    /// By kind, 1 to 50: in how many books it was found.
+    pub kinds: [u64; 51],
     /// By state, in the order of `states::NAMES`: in how many books it was named.
     pub states: [u64; 7],
     /// By number: how many answers of the main call and of the ancestor question had it.
@@ -27,7 +24,7 @@ pub struct Counts {
 
 impl Counts {
     pub fn new() -> Counts {
-        Counts { books: 0, accepted: 0, kinds: [0; KINDS], states: [0; 7], numbers: [0; NUMBERS] }
+        Counts { books: 0, accepted: 0, kinds: [0; 51], states: [0; 7], numbers: [0; NUMBERS] }
     }
 
     pub fn add(&mut self, other: &Counts) {
@@ -41,7 +38,7 @@ impl Counts {
     pub fn count(&mut self, expected: &Expected) {
         self.books += 1;
         self.accepted += u64::from(matches!(expected, Expected::Accepted { .. }));
-        let mut seen = [false; KINDS];
+        let mut seen = [false; 51];
         expected.findings().iter().for_each(|f| seen[usize::from(f.kind)] = true);
         self.kinds.iter_mut().zip(seen).for_each(|(count, is_seen)| *count += u64::from(is_seen));
         let mut named = [false; 7];
@@ -51,7 +48,7 @@ impl Counts {
 
     /// The kinds, states and numbers that no book reached.
     pub fn missing(&self) -> Vec<String> {
-        let kinds = (1..KINDS).filter(|&k| self.kinds[k] == 0).map(|k| format!("kind {k}"));
+        let kinds = (1..=50).filter(|&k| self.kinds[k] == 0).map(|k| format!("kind {k}"));
         let numbers = (0..NUMBERS).filter(|&n| self.numbers[n] == 0).map(|n| format!("answer {n}"));
         let states = states::NAMES.iter().zip(self.states).filter(|(_, count)| *count == 0).map(|((_, name), _)| format!("state {name}"));
         kinds.chain(states).chain(numbers).collect()

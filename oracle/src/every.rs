@@ -1,12 +1,10 @@
 //! Compares both programs on what is little enough to be tried whole.
 use crate::books::values::*;
-use crate::children::{CHILD_TWICE, CHILD_UNNAMED};
 use crate::compare::{self, Counts};
 use crate::expected::Expected;
 use crate::layout::{Book, Key};
 use crate::library::Areas;
-use crate::published::{self, Finding};
-use crate::text;
+use crate::published::Finding;
 use crate::texts::LAST_KEY_KIND;
 use reference::{Published, Rules};
 
@@ -29,25 +27,9 @@ const FOREIGN_TYPE: u8 = 22;
 /// The kinds that the device rule gives, 1 and 2, come before 22; those of a key's fields after it.
 const LAST_DEVICE_KIND: u8 = 2;
 
-/// The words that name a parent or a child: none, the ids of two keys, and another.
-const WORDS: [u32; 4] = [0, 1, 2, 3];
-/// The offsets of two keys: of two ids, and of one.
-const OFFSETS: [[u64; 2]; 3] = [[1, 2], [1, 1], [1, 1 << 32 | 1]];
-/// The lengths of their values: both are judged, or one.
-const LENGTHS: [[usize; 2]; 3] = [[40, 40], [39, 40], [40, 39]];
-/// What becomes of the parents: drawn, a table of the same, or none.
-const PARENTS: [fn(&mut Book); 3] = [
-    |_| (),
-    |book| {
-        book.parents = published::parents(book).into_iter().collect();
-        book.drawn = false;
-    },
-    |book| book.drawn = false,
-];
-
 /// Compares all, and says what differs.
 pub fn run() -> bool {
-    let parts = [accounting_values, types, child_words];
+    let parts = [accounting_values, types];
     parts.into_iter().all(|part| match part() {
         Ok(compared) => {
             println!("{compared}, no difference");
@@ -149,40 +131,4 @@ impl Tally {
 fn is_foreign((btree, key_type): (u8, u8)) -> bool {
     let has_not = |(id, row): &(u8, &[u8])| *id == btree && !row.contains(&key_type);
     Published::key_types_allowed().iter().any(has_not) && !Published::key_types_anywhere().contains(&key_type)
-}
-
-/// The values of a snapshot with each parent word and each two child words.
-fn snapshots() -> Vec<Snapshot> {
-    let of_children = |parent, first| WORDS.map(|second| Snapshot { parent, children: [first, second], ..Snapshot::default() });
-    WORDS.into_iter().flat_map(|parent| WORDS.into_iter().flat_map(move |first| of_children(parent, first))).collect()
-}
-
-/// Two snapshots with each of the words in both, as two ids or as one.
-fn child_words() -> Result<String, String> {
-    let (mut books, mut unnamed, mut twice) = (0, 0, 0);
-    let all = snapshots();
-    for (first, second) in all.iter().flat_map(|first| all.iter().map(move |second| (first, second))) {
-        for book in two_snapshots(first, second) {
-            let found = findings(book.clone()).map_err(|what| format!("two snapshots, {}: {what}", text::hex(&book.encode())))?;
-            books += 1;
-            unnamed += found.iter().filter(|f| f.kind == CHILD_UNNAMED).count();
-            twice += found.iter().filter(|f| f.kind == CHILD_TWICE).count();
-        }
-    }
-    Ok(format!("two snapshots with all parent and child words of {}, {books} books: {unnamed} findings of kind 51 and {twice} of 52", WORDS.len()))
-}
-
-/// Books of these two snapshots with each offsets, lengths and parents.
-fn two_snapshots(first: &Snapshot, second: &Snapshot) -> Vec<Book> {
-    let keys = |offsets: [u64; 2], lengths: [usize; 2]| {
-        let made = |snapshot: &Snapshot, at: usize| key(SNAPSHOTS, T_SNAPSHOT, 0, offsets[at], snapshot.value(lengths[at]));
-        vec![made(first, 0), made(second, 1)]
-    };
-    let with_parents = |keys: Vec<Key>, parents: fn(&mut Book)| {
-        let mut book = Book { mark: true, drawn: true, keys, ..Book::default() };
-        parents(&mut book);
-        book
-    };
-    let of_lengths = |offsets| LENGTHS.into_iter().map(move |lengths| keys(offsets, lengths));
-    OFFSETS.into_iter().flat_map(of_lengths).flat_map(|keys| PARENTS.map(|parents| with_parents(keys.clone(), parents))).collect()
 }

@@ -1,8 +1,7 @@
 //! What documents 01 and 02 state for a book: the answers of the three calls, with the published rules as the judge of the findings.
-use crate::children::{self, Reading, TICKET};
 use crate::layout::{Book, Limit, Refusal};
 use crate::library::{After, Answer, FINDING_BYTES};
-use crate::published::{Finding, Maps, Said, LAST_KIND};
+use crate::published::{Finding, Maps, Said};
 use crate::states;
 use std::collections::BTreeSet;
 
@@ -49,24 +48,15 @@ impl Expected {
 
     /// The same with maps, or with a judge, by another reading.
     pub fn by(bytes: &[u8], maps: impl Fn(&Book) -> Maps, judge: impl Fn(&Maps) -> Said) -> Expected {
-        Expected::in_book(Book::decode(bytes), maps, judge, &TICKET)
+        Expected::in_book(Book::decode(bytes), maps, judge)
     }
 
     /// The same with refusals 12 and 13 by another reading.
     pub fn within(bytes: &[u8], limit: Limit) -> Expected {
-        Expected::in_book(Book::decode_by(bytes, limit), Maps::of, Maps::judge, &TICKET)
+        Expected::in_book(Book::decode_by(bytes, limit), Maps::of, Maps::judge)
     }
 
-    /// The same with kinds 51 and 52 by another reading.
-    pub fn with_children(bytes: &[u8], reading: &Reading) -> Expected {
-        Expected::in_book(Book::decode(bytes), Maps::of, Maps::judge, reading)
-    }
-
-    fn in_book<M, J>(read: Result<Book, Refusal>, maps: M, judge: J, reading: &Reading) -> Expected
-    where
-        M: Fn(&Book) -> Maps,
-        J: Fn(&Maps) -> Said,
-    {
+    fn in_book(read: Result<Book, Refusal>, maps: impl Fn(&Book) -> Maps, judge: impl Fn(&Maps) -> Said) -> Expected {
         match read {
             Err(refusal) => Expected::Refused(refusal),
             Ok(book) => {
@@ -74,7 +64,6 @@ impl Expected {
                 let said = judge(&maps);
                 let mut findings = said.findings();
                 name_states(&book, &mut findings);
-                children::put_in(reading, &book, &maps, &mut findings);
                 Expected::Accepted { maps, keys: book.keys.len(), findings, unavailable: said.unavailable }
             }
         }
@@ -92,7 +81,7 @@ impl Expected {
         let Expected::Accepted { findings, .. } = self else { return false };
         let Some(last) = findings.iter().rposition(|f| f.kind == kind) else { return false };
         match change {
-            Change::Kind => findings[last].kind = kind % LAST_KIND + 1,
+            Change::Kind => findings[last].kind = kind % 50 + 1,
             Change::Subject => findings[last].subject ^= 1,
             Change::Object => findings[last].object ^= 1,
             Change::Order => return exchange(findings, last),

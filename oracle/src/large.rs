@@ -33,7 +33,7 @@ pub fn run() -> bool {
     let mut areas = Areas::new();
     let mut is_same = true;
     let runs = ("2,000 runs over 30,000 alloc entries", runs_in_use());
-    let timed = [speed::rows(), speed::tables(), speed::drawn(), speed::types(), speed::child_words()];
+    let timed = [speed::rows(), speed::tables(), speed::drawn(), speed::types()];
     let books = timed.into_iter().flatten().chain([runs]).map(|(name, book)| (name, book, Vec::new()));
     let questions = speed::questions().into_iter().map(|(name, book, id)| (name, book, vec![id, id + 1]));
     for (name, book, ids) in books.chain(questions) {

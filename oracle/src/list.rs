@@ -13,7 +13,7 @@ use std::path::Path;
 
 const SEED: u64 = 2026;
 /// How many books of each mode, and the most bytes that one may have. A chain of 1,023 links by keys is too long for a line of `replay`.
-const PARTS: [(Mode, usize, usize); 11] = [
+const PARTS: [(Mode, usize, usize); 10] = [
     (Mode::Mixed, 1200, 360),
     (Mode::Forest, 400, 500),
     (Mode::Chains, 300, 400),
@@ -24,7 +24,6 @@ const PARTS: [(Mode, usize, usize); 11] = [
     (Mode::Drawn, 500, 600),
     (Mode::DrawnForest, 200, 500),
     (Mode::DrawnChains, 200, 900),
-    (Mode::Children, 300, 600),
 ];
 /// What `replay` can lend.
 const MOST_ROOM: usize = 65_535;

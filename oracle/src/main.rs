@@ -1,6 +1,5 @@
 //! Holds Dockwrench against the published Rust program. README.md beside this folder says how to run it.
 mod books;
-mod children;
 mod compare;
 mod every;
 mod expected;
@@ -31,7 +30,7 @@ usage: oracle run [MODE|all] [BOOKS] [SEED]   compares so many books of each mod
        oracle list FOLDER                     writes the list that the program `replay` runs: stdin and stdout
        oracle selftest                        shows that a change of a finding of each kind is seen, with the smallest book that shows it
        oracle speed [NAME]                    times both on the books of docs/SPEED.md, or on those with NAME in their name
-modes: mixed, forest, chains, runs, damaged, short, drawn, drawn_forest, children, drawn_chains, and those with long books: parents, bushes, many";
+modes: mixed, forest, chains, runs, damaged, short, drawn, drawn_forest, drawn_chains, and those with long books: bushes, many";
 
 fn main() -> ExitCode {
     let args: Vec<String> = std::env::args().skip(1).collect();
@@ -167,7 +166,6 @@ fn speed(named: &str) -> Option<bool> {
         ("drawn parents", speed::drawn()),
         ("key types", speed::types()),
         ("chains made to be slow", speed::slow()),
-        ("child words", speed::child_words()),
     ];
     for (title, books) in tables {
         println!();

@@ -1,5 +1,5 @@
 //! The published rules over a book: called in document 01's order over maps made from the book, their detail texts read back into numbers.
-use crate::books::values::{word, FREESPACE, PARENT_WORD, SNAPSHOTS, TREES, TREE_WORD, T_SNAPSHOT, T_TREE};
+use crate::books::values::{word, FREESPACE, PARENT_WORD, SNAPSHOTS, TREES, T_SNAPSHOT, T_TREE};
 use crate::layout::{Book, Key};
 use crate::texts;
 use reference::bkey::{Bkey, Bpos};
@@ -7,11 +7,6 @@ use reference::check::{Problem, Report};
 use reference::superblock::{Member, Version};
 use reference::{Published, Rules, Trees};
 use std::collections::{BTreeMap, BTreeSet};
-
-/// The last kind; the first is 1.
-pub const LAST_KIND: u8 = 52;
-/// The kinds that `snapshot_links` gives for its snapshots, and no other rule.
-pub const LINK_KINDS: std::ops::RangeInclusive<u8> = 41..=45;
 
 #[derive(Clone, Copy, Debug, PartialEq, Eq)]
 pub struct Finding {
@@ -164,29 +159,6 @@ impl Maps {
         Said { report: r, after, unavailable }
     }
 
-    pub fn parents(&self) -> &Parents {
-        &self.parents
-    }
-
-    /// What `snapshot_links` finds in each of these snapshot keys. It is called for one key at a time, with the record of
-    /// the tree that the key names: that, the parents and the subvolumes are all that it goes by.
-    pub fn links(&self, keys: &[&Key]) -> Vec<Vec<Finding>> {
-        let Some(records) = self.trees.get(&TREES) else { return vec![Vec::new(); keys.len()] };
-        let records = records.iter().filter(|k| k.key_type == T_TREE && k.value.len() >= 8);
-        // a later record replaces an earlier one
-        let records: BTreeMap<u32, &Bkey> = records.map(|k| (k.pos.offset as u32, k)).collect();
-        let record = |key: &Key| word(&key.value, TREE_WORD).and_then(|tree| records.get(&tree).copied());
-        keys.iter().map(|key| self.links_of(key, record(key))).collect()
-    }
-
-    fn links_of(&self, key: &Key, record: Option<&Bkey>) -> Vec<Finding> {
-        let trees = Trees::from([(SNAPSHOTS, vec![bkey(key.clone())]), (TREES, record.cloned().into_iter().collect())]);
-        let mut r = Report::default();
-        Published::snapshot_links(&trees, &self.parents, &self.subvolumes, &mut r);
-        let all = r.problems.iter().map(|p| texts::read(p.kind, &p.detail));
-        all.filter(|f| LINK_KINDS.contains(&f.kind)).collect()
-    }
-
     /// The root above an id and the number of links to it, or none. The published program computes them inside `snapshot_links` alone: so a
     /// snapshot of this id is judged whose depth is wrong for every chain, and which names a tree whose root is 0; the texts of kinds 42 and 41
     /// then tell both.
@@ -220,5 +192,10 @@ impl Said {
                 found
             })
             .collect()
+    }
+
+    /// How many findings there are.
+    pub fn count(&self) -> usize {
+        self.report.problems.len()
     }
 }

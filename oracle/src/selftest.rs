@@ -1,14 +1,12 @@
-//! Shows that a run can fail: one finding of the judge is changed, or drawn parents, the limit on parents, foreign types,
-//! the offsets of free runs or child words are read by another rule, and each time the difference has to be seen and the
-//! book made small.
-use crate::books::values::{word, DIRENTS, LRU, PARENT_WORD, SNAPSHOTS, T_SNAPSHOT, XATTRS};
+//! Shows that a run can fail: one finding of the judge is changed, or drawn parents, the limit on parents, foreign types or
+//! the offsets of free runs are read by another rule, and each time the difference has to be seen and the book made small.
+use crate::books::values::{DIRENTS, LRU, SNAPSHOTS, T_SNAPSHOT, XATTRS};
 use crate::books::{self, Mode};
-use crate::children::{Reading, TICKET};
 use crate::compare::{compare_with, Counts};
 use crate::expected::{Change, Expected};
 use crate::layout::{limit, Asked, Book, Key, Limit, MOST_PARENTS};
 use crate::library::Areas;
-use crate::published::{self, once, Maps, BUCKET_BITS, LAST_KIND};
+use crate::published::{self, once, Maps, BUCKET_BITS};
 use crate::shrink;
 use crate::text;
 use reference::check::Problem;
@@ -16,7 +14,7 @@ use reference::{Published, Rules};
 
 const SEED: u64 = 1;
 const MOST_BOOKS: u64 = 100_000;
-const KINDS: std::ops::RangeInclusive<u8> = 1..=LAST_KIND;
+const KINDS: std::ops::RangeInclusive<u8> = 1..=50;
 const LONG_MODES: [&[Mode]; 2] = [&[Mode::Bushes], &[Mode::Many]];
 /// The kind that is changed in long books, and the keys that a difference needs which a few keys do not show.
 const LONG_KIND: u8 = 45;
@@ -82,49 +80,6 @@ const OFFSET_READINGS: [Offsets; 7] = [
     ("a run of another device is read whole", |book, run| if run.inode == book.device { bucket(run.offset) } else { run.offset }),
 ];
 
-/// Other readings of kinds 51 and 52.
-type Children = (&'static str, Reading);
-
-const CHILD_READINGS: [Children; 22] = [
-    ("the first key of the parent counts", Reading { is_last: false, ..TICKET }),
-    ("39 bytes are enough for the parent's key", Reading { is_parent: |key| is_snapshot(key, 39), ..TICKET }),
-    ("24 bytes are enough for the parent's key", Reading { is_parent: |key| is_snapshot(key, 24), ..TICKET }),
-    ("40 bytes are not enough for the parent's key", Reading { is_parent: |key| is_snapshot(key, 41), ..TICKET }),
-    ("the parent's key is of any type", Reading { is_parent: |key| key.btree == SNAPSHOTS && key.value.len() >= 40, ..TICKET }),
-    ("the parent's key is of any btree", Reading { is_parent: |key| key.key_type == T_SNAPSHOT && key.value.len() >= 40, ..TICKET }),
-    ("the whole offset is the parent's id", Reading { parent_id: |key| key.offset, ..TICKET }),
-    ("the whole offset is the snapshot's id", Reading { id: |key| key.offset, ..TICKET }),
-    ("52 comes before 51", Reading { is_turned: true, ..TICKET }),
-    ("51 and 52 come after 45", Reading { is_before: |_| true, ..TICKET }),
-    ("51 and 52 come before 44", Reading { is_before: |kind| kind < 44, ..TICKET }),
-    ("two zeros are a child twice", Reading { is_twice: |[first, second]| first == second, ..TICKET }),
-    ("any child word is a child twice", Reading { is_twice: |words| words != [0; 2], ..TICKET }),
-    ("the map's parent for the key's", Reading { parent: |key, parents| parents.get(&(key.offset as u32)).copied().unwrap_or(0), ..TICKET }),
-    ("the parent is not looked for in the map", Reading { has_parent: |_, _| true, ..TICKET }),
-    ("a parent without a key leaves out all", Reading { leaves_out: |named, id| named.is_none() || (TICKET.leaves_out)(named, id), ..TICKET }),
-    ("only the first child word counts", Reading { leaves_out: |named, id| named.is_some_and(|[first, _]| u64::from(first) != id), ..TICKET }),
-    ("only the second child word counts", Reading { leaves_out: |named, id| named.is_some_and(|[_, second]| u64::from(second) != id), ..TICKET }),
-    (
-        "a parent without children leaves out nobody",
-        Reading { leaves_out: |named, id| named != Some([0; 2]) && (TICKET.leaves_out)(named, id), ..TICKET },
-    ),
-    (
-        "a snapshot below itself is not judged",
-        Reading { parent: |key, parents| if is_below_itself(key) { 0 } else { (TICKET.parent)(key, parents) }, ..TICKET },
-    ),
-    ("the trees mark is not asked for", Reading { is_read: |_| true, ..TICKET }),
-    ("each id once", Reading { is_once: true, ..TICKET }),
-];
-
-/// Whether a key is a snapshot of so many value bytes or more.
-fn is_snapshot(key: &Key, bytes: usize) -> bool {
-    key.btree == SNAPSHOTS && key.key_type == T_SNAPSHOT && key.value.len() >= bytes
-}
-
-fn is_below_itself(key: &Key) -> bool {
-    word(&key.value, PARENT_WORD) == Some(key.offset as u32)
-}
-
 fn bucket(offset: u64) -> u64 {
     offset % (1 << BUCKET_BITS)
 }
@@ -155,7 +110,6 @@ enum Wrong {
     Types(Types),
     Offsets(Offsets),
     Limits(Limits),
-    Children(Children),
 }
 
 /// A wrong judge, tried on the first book of these modes where it is wrong. Only books of so many keys or more are judged wrong.
@@ -178,8 +132,7 @@ pub fn run() -> bool {
     cases.extend(Change::ALL.into_iter().flat_map(in_long_books).chain(with_many_keys));
     let of_offsets = OFFSET_READINGS.map(|offsets| Case::of(&[Mode::Runs], Wrong::Offsets(offsets)));
     let of_limits = LIMIT_READINGS.map(|limits| Case { keys: limits.2, ..Case::of(&[Mode::Parents], Wrong::Limits(limits)) });
-    let of_children = CHILD_READINGS.map(|children| Case::of(&[Mode::Children], Wrong::Children(children)));
-    cases.extend(of_parents.into_iter().chain(of_types).chain(of_offsets).chain(of_limits).chain(of_children));
+    cases.extend(of_parents.into_iter().chain(of_types).chain(of_offsets).chain(of_limits));
     let unseen = cases.iter().filter(|case| !case.show()).count();
     println!("{} changes, {unseen} of them not seen", cases.len());
     unseen == 0
@@ -240,8 +193,7 @@ impl Wrong {
     fn name(self) -> String {
         match self {
             Wrong::Finding(change, kind) => format!("{} of kind {kind}", change.name()),
-            Wrong::Parents(name, _) | Wrong::Types((name, ..)) | Wrong::Offsets((name, _)) => name.to_string(),
-            Wrong::Limits((name, ..)) | Wrong::Children((name, _)) => name.to_string(),
+            Wrong::Parents(name, _) | Wrong::Types((name, ..)) | Wrong::Offsets((name, _)) | Wrong::Limits((name, ..)) => name.to_string(),
         }
     }
 
@@ -265,7 +217,6 @@ impl Wrong {
                 let maps = |book: &Book| Maps::over(book, published::parents(book), published::runs_by(book, read));
                 Expected::by(bytes, maps, Maps::judge)
             }
-            Wrong::Children((_, ref reading)) => Expected::with_children(bytes, reading),
             Wrong::Limits((_, read, _)) => {
                 let wrong = Expected::within(bytes, read);
                 let answer = |expected: &Expected| expected.check(usize::MAX, usize::MAX).answer;

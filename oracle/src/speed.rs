@@ -1,7 +1,6 @@
 //! Times both programs on the same books in the same run: Dockwrench whole, from bytes to findings; the published rules alone, over maps made before.
 use crate::books::values::*;
 use crate::books::{self, Mode};
-use crate::expected::Expected;
 use crate::layout::{Book, Key, HEADER_BYTES, KEY_HEAD_BYTES, LONGEST_BOOK, MOST_PARENTS};
 use crate::library;
 use crate::published::{self, Maps, Parents, BUCKET_BITS};
@@ -13,9 +12,6 @@ const VERSION: u16 = 1062;
 
 /// Lengths from which on a snapshot has a parent, has a tree, and is judged.
 const LENGTHS: [usize; 3] = [8, 24, 40];
-
-/// The keys of a book for its child words.
-const CHILD_KEYS: u32 = 13_700;
 
 /// How long each program is run on a book in a round, and the rounds; the shortest time of all rounds counts. Of a book
 /// on which they take so long in all there are fewer.
@@ -80,28 +76,6 @@ pub fn slow() -> Vec<(&'static str, Book)> {
         ("one ring of all, drawn", without_table(tangle(3 * most, 1, |place| Some((place + 1) % (3 * most))))),
         ("all below 100 snapshots at 900 links and more", tangle(most, 3, far(deep))),
         ("all below 100 snapshots at 900 links and more, drawn", without_table(tangle(3 * most, 1, far(deep)))),
-    ]
-}
-
-/// Snapshots in no order whose parents' child words are looked for: two below each, so that nothing is to find; all below one, so that nearly each
-/// is a finding, also where that one has many keys that don't count; and keys of one id below itself, of which the last counts. With a table of
-/// parents, and drawn.
-pub fn child_words() -> Vec<(&'static str, Book)> {
-    let (most, all) = (u32::from(MOST_PARENTS), CHILD_KEYS);
-    let two_below_each = |place: u32| Some(place.checked_sub(1)? / 2);
-    let all_below_one = |place: u32| (place > 0).then_some(0);
-    vec![
-        ("4,096 snapshots, two below each, three times", tangle(most, 3, two_below_each)),
-        ("13,700 snapshots, two below each, drawn", without_table(tangle(all, 1, two_below_each))),
-        ("4,096 snapshots of one parent, three times", tangle(most, 3, all_below_one)),
-        ("13,700 snapshots of one parent, drawn", without_table(tangle(all, 1, all_below_one))),
-        ("4,096 snapshots of one parent, which has 9,600 keys of 39 bytes too", with_short_keys(tangle(most, 1, all_below_one), 9_600)),
-        (
-            "6,850 snapshots of one parent, which has 6,850 keys of 39 bytes too, drawn",
-            without_table(with_short_keys(tangle(all / 2, 1, all_below_one), 6_850)),
-        ),
-        ("13,700 keys of one id that is its own parent, 4,096 parents", its_own_parent()),
-        ("13,700 keys of one id that is its own parent, drawn", without_table(its_own_parent())),
     ]
 }
 
@@ -221,18 +195,14 @@ fn chains(trees: u32) -> Book {
 }
 
 /// So many snapshots, each so many times, with the parents that a rule gives their places. The root, if there is one, is at
-/// place 0; skip words name the parent, child words the first two below.
+/// place 0; skip words name the parent.
 fn tangle(count: u32, times: usize, above: impl Fn(u32) -> Option<u32>) -> Book {
     // a multiplication by an odd number gives each place an id of its own
     let id = |place: u32| (place + 1).wrapping_mul(2_654_435_761);
     let parent = |place: u32| above(place).map_or(0, id);
-    let mut below = vec![Vec::new(); count as usize];
-    (0..count).for_each(|place| above(place).into_iter().for_each(|parent| below[parent as usize].push(id(place))));
-    let child = |place: u32, number: usize| below[place as usize].get(number).copied().unwrap_or(0);
     let links = |place: u32| std::iter::successors(above(place), |&at| above(at)).take(1_025).count() as u32;
     let snapshot = |place: u32| {
-        let (parent, children) = (parent(place), [child(place, 0), child(place, 1)]);
-        let words = Snapshot { parent, children, tree: 1, depth: links(place), skip: [parent; 3], ..Snapshot::default() };
+        let words = Snapshot { parent: parent(place), tree: 1, depth: links(place), skip: [parent(place); 3], ..Snapshot::default() };
         key(SNAPSHOTS, T_SNAPSHOT, 0, u64::from(id(place)), words.value(40))
     };
     let mut book = Book { subvolumes: vec![(1, u32::MAX)], ..empty() };
@@ -242,27 +212,6 @@ fn tangle(count: u32, times: usize, above: impl Fn(u32) -> Option<u32>) -> Book 
     book.keys = std::iter::repeat_n(keys, times).flatten().collect();
     book.keys.push(key(TREES, T_TREE, 0, 1, tree_value(1, id(0), 8)));
     in_no_order(book)
-}
-
-/// The same book in no order, with so many keys of the snapshot without a parent that are a byte too short to be judged.
-fn with_short_keys(mut book: Book, count: usize) -> Book {
-    let is_root = |key: &&Key| key.btree == SNAPSHOTS && word(&key.value, PARENT_WORD) == Some(0);
-    let root = book.keys.iter().find(is_root).expect("there is a root").clone();
-    let short = Key { value: root.value[..39].to_vec(), ..root };
-    book.keys.extend(vec![short; count]);
-    in_no_order(book)
-}
-
-/// Keys of one id below itself, each but the last with child words that name it; and a parents table as long as it may be.
-fn its_own_parent() -> Book {
-    let id = 5;
-    let snapshot = |children| key(SNAPSHOTS, T_SNAPSHOT, 0, id.into(), Snapshot { parent: id, children, tree: 1, ..Snapshot::default() }.value(40));
-    let mut book = Book { subvolumes: vec![(1, u32::MAX)], ..empty() };
-    book.parents = (1..=u32::from(MOST_PARENTS)).map(|entry| (entry, if entry == id { id } else { 0 })).collect();
-    book.keys = vec![snapshot([id, 0]); CHILD_KEYS as usize - 1];
-    book.keys.push(snapshot([0, 0]));
-    book.keys.push(key(TREES, T_TREE, 0, 1, tree_value(1, id, 8)));
-    book
 }
 
 /// 28 chains of 1,024 links whose ids rise towards the root, with values of 8 bytes, and the foot of the last.
@@ -385,7 +334,7 @@ pub struct Times {
 pub fn times(book: &Book) -> Times {
     let bytes = book.encode();
     let maps = Maps::of(book);
-    let findings = Expected::of(&bytes).findings().len();
+    let findings = maps.judge().count();
     let mut buffer = vec![0; findings * library::FINDING_BYTES];
     let mut work = vec![0; 2 * book.keys.len()];
     let answer = library::check(&bytes, &mut buffer, &mut work);

@@ -7,11 +7,8 @@ use crate::published::Finding;
 /// Kinds up to this one have the key's index as their subject, and object 0.
 pub const LAST_KEY_KIND: u8 = 28;
 
-/// How many kinds the published program has; those of document 02 have no text.
-const PUBLISHED_KINDS: usize = 50;
-
-/// Every published kind in order with its name and templates.
-const KINDS: [(&str, &[&str]); PUBLISHED_KINDS] = [
+/// Every kind in order with its name and templates.
+const KINDS: [(&str, &[&str]); 50] = [
     ("pointer_to_nonexistent_device", &["btree {w}: key {p} is on device {n}, and the filesystem has only device {n}"]),
     ("backpointer_for_missing_device", &["btree {w}: key {p} is on device {n}, and the filesystem has only device {n}"]),
     ("bkey_size_nonzero", &["btree {w}: key {p} has size {n}"]),

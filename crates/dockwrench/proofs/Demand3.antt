@@ -2,7 +2,7 @@
 use Prim.Native.Nat.{ℕ, ◌*◌, ◌<◌}
 use mathlib.Core.Bool.{Bool, true, false, cond}
 use mathlib.Core.List.{List}
-use mathlib.Core.Path.{◌≡◌, refl, ap, sym, subst, ◌∙◌}
+use mathlib.Core.Path.{◌≡◌, refl, ap, ◌∙◌}
 use native.Mathlib.Omega.{arith}
 use lib.ListN.{length}
 use lib.Dec.{ltb}
@@ -11,13 +11,12 @@ use Rattle.findings.specs.Findings.{sink, Found}
 use Rattle.book.specs.Book.{Book, book_of}
 use Rattle.book.specs.Refusals.{Outcome, parse}
 use Rattle.rules.specs.Rules.{findings_of}
-use Rattle.forest.specs.Children.{ChildrenExact}
-use Rattle.rules.proofs.Demand3.{demand_3, children_exact}
+use Rattle.rules.proofs.Demand3.{demand_3}
 use Rattle.dockwrench.specs.declared.Checked.{Checked}
 use Rattle.dockwrench.specs.declared.Checked.TheVariants as checked
 use Rattle.dockwrench.specs.Answers.{Answer, count_in, checked_answer}
 use Rattle.dockwrench.specs.Decode.{decode}
-use Rattle.dockwrench.specs.Claim.{Claim, ChildrenClaim}
+use Rattle.dockwrench.specs.Claim.{Claim}
 use Rattle.dockwrench.proofs.Decode.{decode_put}
 
 -- an answer other than 0
@@ -49,10 +48,3 @@ claim_judged {s} {o} {o'} {n = n} {a = a} e f is =
 -- the same answer, said otherwise
 pub claim_as : {s buffer : List ℕ} {a a' : Answer} → a ≡ a' → Claim s a buffer → Claim s a' buffer
 claim_as e h = rw e at h
-
--- what is claimed of the list and of the call says ticket 7 of both
-pub children_claim : {s buffer : List ℕ} {a : Answer} → Claim s a buffer → ChildrenClaim s a buffer
-children_claim h = record {
-  list = λ b is F. children_exact b F;
-  call = λ b is F zero. subst (ChildrenExact b) (sym (h.call b is zero)) (children_exact b F);
-}

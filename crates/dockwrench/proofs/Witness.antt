@@ -1,6 +1,6 @@
 -- A forest book in bytes, of two snapshots and a tree record, with the drawn mark and without: what it is read as, its list, and what the main
 -- call leaves in both areas.
--- With the right depth word it is sound and its child words are its children, and with another it is not, and the finding stands in the buffer.
+-- With the right depth word it is sound, and with another it is not, and the finding stands in the buffer.
 use Prim.Native.Nat.{ℕ}
 use mathlib.Core.Bool.{Bool, true, false, cond}
 use mathlib.Core.Path.{◌≡◌, refl}
@@ -11,10 +11,9 @@ use Rattle.findings.specs.Findings.{Finding, finding, bytes_of, encode, put}
 use Rattle.book.specs.Book.{header_of, places_of, entry_at, data_type_of, table_from, key_head, key_end, keys_from, Book, book_of}
 use Rattle.book.specs.Refusals.{refuse, ◌then◌, bad_rest, entry_verdict, table_verdict, key_verdict, keys_verdict, parts_verdict, header_verdict, book_verdict, Outcome, outcome_of, parse}
 use Rattle.forest.specs.Forest.{ForestBook, Sound, Demand3}
-use Rattle.forest.specs.Children.{Children}
 use Rattle.rules.specs.Rules.{findings_of}
 use Rattle.rules.proofs.Demand3.{demand_3}
-use Rattle.rules.proofs.Examples.{book, forest_book, no_findings, sound, children, one_finding, unsound}
+use Rattle.rules.proofs.Examples.{book, forest_book, no_findings, sound, one_finding, unsound}
 use Rattle.dockwrench.specs.declared.Checked.TheVariants as checked
 use Rattle.dockwrench.specs.Answers.{work_short, count_in, check_book, check_of, book_buffer, buffer_after, zeros, book_work, work_after}
 use Rattle.dockwrench.specs.Decode.{decode}
@@ -78,7 +77,7 @@ pub bytes : Bool → ℕ → List ℕ
 bytes drawn depth = header drawn ++ (parents drawn ++ (subvolumes ++ (upper ++ (tree ++ lower depth))))
 
 -- it is accepted, whatever the depth
-pub accepted : (drawn : Bool) (depth : ℕ) → parse (bytes drawn depth) ≡ Outcome.accepted (book drawn 0 2 0 1 depth 1 1)
+pub accepted : (drawn : Bool) (depth : ℕ) → parse (bytes drawn depth) ≡ Outcome.accepted (book drawn 0 2 1 depth 1 1)
 unfolding bytes header parents subvolumes upper tree lower book bit bits_at le_at refuse ◌then◌ header_of entry_at bad_rest entry_verdict table_verdict key_head key_end key_verdict keys_verdict places_of parts_verdict header_verdict book_verdict data_type_of table_from keys_from book_of outcome_of parse
 accepted true depth = refl
 accepted false depth = refl
@@ -123,23 +122,22 @@ pub record Shown (s : List ℕ) (b : Book) (fs : List Finding) (after : List ℕ
 
 sound_answer : (drawn : Bool) → check_of (parse (bytes drawn 1)) (length buffer) (length work) ≡ checked.Found 0
 unfolding buffer work book work_short count_in
-sound_answer drawn = answer_is (bytes drawn 1) (book drawn 0 2 0 1 1 1 1) [] 20 6 (accepted drawn 1) (no_findings drawn)
+sound_answer drawn = answer_is (bytes drawn 1) (book drawn 0 2 1 1 1 1) [] 20 6 (accepted drawn 1) (no_findings drawn)
 
-pub sound_shown : (drawn : Bool) → Shown (bytes drawn 1) (book drawn 0 2 0 1 1 1 1) [] buffer × Sound (book drawn 0 2 0 1 1 1 1) × Children (book drawn 0 2 0 1 1 1 1)
+pub sound_shown : (drawn : Bool) → Shown (bytes drawn 1) (book drawn 0 2 1 1 1 1) [] buffer × Sound (book drawn 0 2 1 1 1 1)
 unfolding buffer work book work_short put book_work zeros decode
 sound_shown drawn = (
   record {
     reads = accepted drawn 1;
-    forest = forest_book drawn 0 2 0 1 1 1 1;
+    forest = forest_book drawn 0 2 1 1 1 1;
     list = no_findings drawn;
     answer = sound_answer drawn;
-    buffer_after = buffer_is (bytes drawn 1) (book drawn 0 2 0 1 1 1 1) [] 6 buffer (accepted drawn 1) (no_findings drawn);
-    work_after = work_is (bytes drawn 1) (book drawn 0 2 0 1 1 1 1) work (accepted drawn 1);
+    buffer_after = buffer_is (bytes drawn 1) (book drawn 0 2 1 1 1 1) [] 6 buffer (accepted drawn 1) (no_findings drawn);
+    work_after = work_is (bytes drawn 1) (book drawn 0 2 1 1 1 1) work (accepted drawn 1);
     decoded = refl;
-    demand = demand_3 (book drawn 0 2 0 1 1 1 1) (forest_book drawn 0 2 0 1 1 1 1);
+    demand = demand_3 (book drawn 0 2 1 1 1 1) (forest_book drawn 0 2 1 1 1 1);
   },
   sound drawn,
-  children drawn,
 )
 
 -- THE UNSOUND ONE, of depth 0: kind 42, snapshot 2 and its depth word, in 17 bytes; the last three are as they were
@@ -149,20 +147,20 @@ buffer_of_42 = 42 ∷ 0 ∷ 0 ∷ 0 ∷ 0 ∷ 0 ∷ 0 ∷ 0 ∷ 2 ∷ 0 ∷ 0 �
 
 unsound_answer : (drawn : Bool) → check_of (parse (bytes drawn 0)) (length buffer) (length work) ≡ checked.Found 1
 unfolding buffer work book work_short count_in
-unsound_answer drawn = answer_is (bytes drawn 0) (book drawn 0 2 0 1 0 1 1) (finding 42 2 0 ∷ []) 20 6 (accepted drawn 0) (one_finding drawn)
+unsound_answer drawn = answer_is (bytes drawn 0) (book drawn 0 2 1 0 1 1) (finding 42 2 0 ∷ []) 20 6 (accepted drawn 0) (one_finding drawn)
 
-pub unsound_shown : (drawn : Bool) → Shown (bytes drawn 0) (book drawn 0 2 0 1 0 1 1) (finding 42 2 0 ∷ []) buffer_of_42 × (Sound (book drawn 0 2 0 1 0 1 1) → ⊥)
+pub unsound_shown : (drawn : Bool) → Shown (bytes drawn 0) (book drawn 0 2 1 0 1 1) (finding 42 2 0 ∷ []) buffer_of_42 × (Sound (book drawn 0 2 1 0 1 1) → ⊥)
 unfolding buffer work buffer_of_42 book work_short bytes_of encode put book_work zeros be_at decode
 unsound_shown drawn = (
   record {
     reads = accepted drawn 0;
-    forest = forest_book drawn 0 2 0 1 0 1 1;
+    forest = forest_book drawn 0 2 1 0 1 1;
     list = one_finding drawn;
     answer = unsound_answer drawn;
-    buffer_after = buffer_is (bytes drawn 0) (book drawn 0 2 0 1 0 1 1) (finding 42 2 0 ∷ []) 6 buffer (accepted drawn 0) (one_finding drawn);
-    work_after = work_is (bytes drawn 0) (book drawn 0 2 0 1 0 1 1) work (accepted drawn 0);
+    buffer_after = buffer_is (bytes drawn 0) (book drawn 0 2 1 0 1 1) (finding 42 2 0 ∷ []) 6 buffer (accepted drawn 0) (one_finding drawn);
+    work_after = work_is (bytes drawn 0) (book drawn 0 2 1 0 1 1) work (accepted drawn 0);
     decoded = refl;
-    demand = demand_3 (book drawn 0 2 0 1 0 1 1) (forest_book drawn 0 2 0 1 0 1 1);
+    demand = demand_3 (book drawn 0 2 1 0 1 1) (forest_book drawn 0 2 1 0 1 1);
   },
   unsound drawn,
 )

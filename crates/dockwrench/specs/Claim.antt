@@ -1,9 +1,8 @@
--- Demand 3: "one claim on that list and that call over every forest book, not one for each kind"; and ticket 7 of document 02, on both likewise.
+-- Demand 3: "one claim on that list and that call over every forest book, not one for each kind".
 use Rattle.std.specs.Prelude.{ℕ, List, ◌≡◌}
 use Rattle.book.specs.Book.{Book}
 use Rattle.book.specs.Refusals.{Outcome, parse}
 use Rattle.forest.specs.Forest.{ForestBook, Demand3}
-use Rattle.forest.specs.Children.{ChildrenExact}
 use Rattle.rules.specs.Rules.{findings_of}
 use Rattle.dockwrench.specs.Answers.{Answer}
 use Rattle.dockwrench.specs.Decode.{decode}
@@ -14,11 +13,3 @@ pub record Claim (s : List ℕ) (answer : Answer) (buffer : List ℕ) : Type 0 w
   pub list : (b : Book) → parse s ≡ Outcome.accepted b → ForestBook b → Demand3 b (findings_of b)
   -- on the call: "at answer 0 the main call, the entry above, has left that list first in the buffer"
   pub call : (b : Book) → parse s ≡ Outcome.accepted b → answer.number ≡ 0 → decode answer.count buffer ≡ findings_of b
-
--- ticket 7, of the same call: "When the forest kinds, 51 and 52 are all absent in a forest book, the non-zero child words of a snapshot are its children,
--- each once, and nobody has three"
-pub record ChildrenClaim (s : List ℕ) (answer : Answer) (buffer : List ℕ) : Type 0 where
-  -- on the list
-  pub list : (b : Book) → parse s ≡ Outcome.accepted b → ForestBook b → ChildrenExact b (findings_of b)
-  -- on the call: at answer 0 the findings that it has left first in the buffer tell
-  pub call : (b : Book) → parse s ≡ Outcome.accepted b → ForestBook b → answer.number ≡ 0 → ChildrenExact b (decode answer.count buffer)

@@ -28,7 +28,7 @@ ghost use Rattle.dockwrench.specs.Answers.{
   packed,
   unpacked,
 };
-ghost use Rattle.dockwrench.specs.Claim.{Claim, ChildrenClaim};
+ghost use Rattle.dockwrench.specs.Claim.{Claim};
 
 use book::{Header, Places, Scanned};
 use parents::{Root, Source};
@@ -124,7 +124,6 @@ pub fn check(book: &[u8], findings: &mut [u8], work: &mut [u64]) -> Checked
     ensures work { work.new ≡ workAfter (parse book.now) work.old }
     ensures few { (checkedAnswer result).count < 2 ^ 32 }
     ensures claim { Claim book.now (checkedAnswer result) findings.new }
-    ensures children { ChildrenClaim book.now (checkedAnswer result) findings.new }
 {
     let s = scan::scan(book);
     match s {
@@ -207,7 +206,6 @@ pub extern "C" fn dockwrench_check(book: &[u8], findings: &mut [u8], work: &mut 
     ensures buffer { findings.new ≡ bufferAfter (parse book.now) (length work.old) findings.old }
     ensures work { work.new ≡ workAfter (parse book.now) work.old }
     ensures claim { Claim book.now (unpacked result) findings.new }
-    ensures children { ChildrenClaim book.now (unpacked result) findings.new }
 {
     let answer = check(book, findings, work);
     match answer {

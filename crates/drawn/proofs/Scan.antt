@@ -17,7 +17,7 @@ use Rattle.book.proofs.Walk.{step}
 use Rattle.walk.specs.Keys.{key_at, AtKey}
 use Rattle.walk.proofs.Gather.{at_long, at_length, long_enough}
 use Rattle.maps.specs.LastKeys.{last_key}
-use Rattle.maps.proofs.Places.{Held, held_at}
+use Rattle.maps.proofs.Places.{Held}
 use Rattle.drawn.specs.Classes.{SnapshotAt}
 
 -- ---- by the front of the key at hand
@@ -81,11 +81,3 @@ at_snapshot s {q} {f} h e front =
 pub head_snapshot : (s : List ℕ) {q : ℕ} {m : MaybeU64} → SnapshotAt s m → m ≡ Is q → (length s ≤ 1048576) × (q + 4 ≤ length s)
 unfolding SnapshotAt
 head_snapshot s h e = let g = subst (SnapshotAt s) e h in (g.0, omega (arith, g.1))
-
--- a key that was found is at hand once its front is read
-module _ (b t m : ℕ) {s : List ℕ} {x q : ℕ} (small : length s ≤ 1048576) (held : Held (holds b t m) id_of s x q) where
-  pub held_head : (length s ≤ 1048576) × (q + 4 ≤ length s)
-  held_head = (small, omega (arith, held.head))
-
-  pub held_key : {f : KeyFront} → f ≡ front_of (key_head s q) → AtKey s q f × (m ≤ f.len)
-  held_key e = let k = held_at small held e in (k, holds_long k b t m held.passes)

@@ -1,8 +1,6 @@
--- For this crate and those that link it: `Theorem` is demand 3 of a list, `Children` ticket 7 of one, `Rules` has the rules on their own,
--- `Absent` the laws of absent kinds.
+-- For this crate and those that link it: `Theorem` is demand 3 of a list, `Rules` has the rules on their own, `Absent` the laws of absent kinds.
 pub mod Absent
 mod Chains
-pub mod Children
 pub mod Lists
 mod Maps
 mod Reading

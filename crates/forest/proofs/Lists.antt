@@ -60,17 +60,6 @@ module _ {A : Type 0} where
       go true k = Memᴰ.tail k
       go false k = k
 
-  -- and what is kept is an element that passes it
-  pub keep_mem : (p : A → Bool) (xs : List A) (x : A) → x ∈ keep p xs → (x ∈ xs) × (p x ≡ true)
-  unfolding keep
-  keep_mem p [] x m = absurd (Memᴰ.not-nil m)
-  keep_mem p (z ∷ xs) x m = go (p z) refl m (λ n. keep_mem p xs x n)
-    where
-      go : (b : Bool) → p z ≡ b → x ∈ cond b (z ∷ keep p xs) (keep p xs) → (x ∈ keep p xs → (x ∈ xs) × (p x ≡ true)) → (x ∈ (z ∷ xs)) × (p x ≡ true)
-      go true e (Memᴰ.head q) ih = (Memᴰ.head q, ap p q ∙ e)
-      go true e (Memᴰ.tail n) ih = let r = ih n in (Memᴰ.tail r.0, r.1)
-      go false e n ih = let r = ih n in (Memᴰ.tail r.0, r.1)
-
   -- nothing is kept exactly if no element passes the test
   pub keep_none : (p : A → Bool) (xs : List A) → ((x : A) → x ∈ xs → p x ≡ false) → keep p xs ≡ []
   unfolding keep

@@ -16,7 +16,6 @@ use Rattle.book.specs.Book.{Bkey, Book}
 use Rattle.book.specs.KeyMaps.{parents_of}
 use Rattle.parents.specs.Roots.{root_of, above}
 use Rattle.book.specs.Words.{parent_word, child_words, subvolume_word, tree_word, depth_word, skip_words, root_word, holds}
-use Rattle.child_words.specs.ChildWords.{child_word_findings}
 use Rattle.links.specs.SnapshotLinks.{tree_map, tree_of_map, is_the, is_other, master_findings, tree_findings, names_root, wrong_depth, bad_child, bad_skip, root_findings, backref_findings, child_findings, skip_findings, link_findings, snapshot_links}
 use Rattle.forest.specs.Lists.{◌∈◌}
 use Rattle.forest.specs.Forest.{snapshots, ForestBook, Links, InChain, RootedRight, NamedBack, NamesChild, NamesChain, Sound, forest_kinds, Absent}
@@ -65,10 +64,9 @@ record Passed (b : Book) (s : Bkey) (id : ℕ) (root : Option (ℕ × ℕ)) (ids
 snapshot_findings : Book → Bkey → ℕ → Option (ℕ × ℕ) → List ℕ → List Finding
 snapshot_findings b s id root ids =
     root_findings s id (lookup (tree_word s) (tree_map b)) root
-    ++ (backref_findings s id (lookup (subvolume_word s) b.subvolumes)
-    ++ (child_findings s id (parents_of b) ++ (child_word_findings b s ++ skip_findings s id ids)))
+    ++ (backref_findings s id (lookup (subvolume_word s) b.subvolumes) ++ (child_findings s id (parents_of b) ++ skip_findings s id ids))
 
--- each of its five parts
+-- each of its four parts
 module _ (b : Book) (s : Bkey) (id : ℕ) where
   root_part : (root : Option (ℕ × ℕ))
       → Absent (root_findings s id (lookup (tree_word s) (tree_map b)) root) ↔ ((names_root (lookup (tree_word s) (tree_map b)) root ≡ true) × (wrong_depth (depth_word s) root ≡ false))
@@ -92,11 +90,6 @@ module _ (b : Book) (s : Bkey) (id : ℕ) where
       found : ℕ → List Finding
       found child = when (bad_child (parents_of b) id child) (finding 44 id child)
 
-  -- kinds 51 and 52 are no forest kinds
-  child_words_part : Absent (child_word_findings b s)
-  unfolding child_word_findings has
-  child_words_part = (absent_append _ _).1 (absent_other _ 51 _ _ refl, absent_other _ 52 _ _ refl)
-
   skip_part : (ids : List ℕ) → Absent (skip_findings s id ids) ↔ ((w : ℕ) → w ∈ skip_words s → (w ≡ 0 → ⊥) → w ∈ (id ∷ ids))
   unfolding skip_findings bad_skip
   skip_part ids = (
@@ -113,9 +106,8 @@ module _ (b : Book) (s : Bkey) (id : ℕ) where
           let x = (absent_append (root_findings s id (lookup (tree_word s) (tree_map b)) root) _).0 h in
           let y = (absent_append (backref_findings s id (lookup (subvolume_word s) b.subvolumes)) _).0 x.1 in
           let z = (absent_append (child_findings s id (parents_of b)) _).0 y.1 in
-          let w = (absent_append (child_word_findings b s) _).0 z.1 in
           let r = (root_part root).0 x.0 in
-          record { tree = r.0; depth = r.1; children = child_part.0 z.0; skips = (skip_part ids).0 w.1 }
+          record { tree = r.0; depth = r.1; children = child_part.0 z.0; skips = (skip_part ids).0 z.1 }
 
       back : Passed b s id root ids → Absent (snapshot_findings b s id root ids)
       back p =
@@ -123,7 +115,7 @@ module _ (b : Book) (s : Bkey) (id : ℕ) where
             (root_part root).1 (p.tree, p.depth),
             (absent_append _ _).1 (
               backref_part (lookup (subvolume_word s) b.subvolumes),
-              (absent_append _ _).1 (child_part.1 p.children, (absent_append _ _).1 (child_words_part, (skip_part ids).1 p.skips)),
+              (absent_append _ _).1 (child_part.1 p.children, (skip_part ids).1 p.skips),
             ),
           )
 
@@ -240,7 +232,7 @@ module _ (b : Book) (F : ForestBook b) where
 
   -- THE WHOLE LIST
 
-  pub links_are : snapshot_links b ≡ each (λ _ e. tree_findings b e) 0 (tree_map b) ++ each (λ _ k. link_findings b k) 0 (snapshots b)
+  links_are : snapshot_links b ≡ each (λ _ e. tree_findings b e) 0 (tree_map b) ++ each (λ _ k. link_findings b k) 0 (snapshots b)
   unfolding snapshot_links only
   links_are =
       ap (λ (c : Bool). only c (trees ++ each (λ _ k. only (holds 9 22 40 k) (link_findings b k)) 0 b.keys)) F.mark

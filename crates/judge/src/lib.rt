@@ -96,7 +96,7 @@ fn judge_links(
 ) -> usize
     requires { Opened book.now h at × (2 * h.keys ≤ length work.old) × (p ≡ present_in (book_of book.now).keys) }
     ensures found { Found (sink out.old counts.old) (snapshot_links (book_of book.now)) result (sink out.new counts.new) }
-    ensures few { result ≤ h.keys * 10 }
+    ensures few { result ≤ h.keys * 8 }
 {
     if p.snapshots | p.trees {
         return links::snapshot_links(book, h, at, out, counts, work);
@@ -157,7 +157,7 @@ fn judge_last(
 ) -> usize
     requires { Opened book.now h at × (2 * h.keys ≤ length work.old) × (p ≡ present_in (book_of book.now).keys) }
     ensures found { Found (sink out.old counts.old) (lastRules (book_of book.now)) result (sink out.new counts.new) }
-    ensures few { result ≤ h.keys * 268 + 196608 }
+    ensures few { result ≤ h.keys * 266 + 196608 }
 {
     let a = judge_links(book, h, at, p, out, counts, work);
     let from = start_of(out.len(), a);
@@ -178,7 +178,7 @@ fn judge_across(
 ) -> usize
     requires { Opened book.now h at × (2 * h.keys ≤ length work.old) × (p ≡ present_in (book_of book.now).keys) }
     ensures found { Found (sink out.old counts.old) (acrossRules (book_of book.now)) result (sink out.new counts.new) }
-    ensures few { result ≤ h.keys * 75174 + 196608 }
+    ensures few { result ≤ h.keys * 75172 + 196608 }
 {
     let n = judge_first(book, h, at, p, out, counts, work);
     let from = start_of(out.len(), n);

@@ -15,7 +15,7 @@ use Rattle.book.specs.Book.{Bkey}
 use Rattle.fields.specs.CheckKeyDevice.{check_key_device}
 use Rattle.fields.specs.CheckKeyFields.{has_row, size_zero, snapshot_zero, check_key_fields}
 use Rattle.fields.specs.Steps.{size_bad, snapshot_bad}
-use Rattle.key_types.specs.CheckKeyType.{key_types_anywhere, key_types_allowed, outside, foreign_type, check_key_type}
+use Rattle.types.specs.CheckKeyType.{key_types_anywhere, key_types_allowed, outside, foreign_type, check_key_type}
 use Rattle.states.specs.CheckStateWords.{check_state_words}
 use Rattle.keys.specs.KeyFindings.{key_rules}
 use Rattle.keys.proofs.Others.{judged, fields_none, states_none}

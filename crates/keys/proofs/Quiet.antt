@@ -17,8 +17,8 @@ use Rattle.fields.specs.CheckKeyDevice.{elsewhere, check_key_device}
 use Rattle.fields.specs.CheckKeyFields.{has_row}
 use Rattle.fields.specs.Steps.{snapshot_bad}
 use Rattle.fields.proofs.Laws.{size_may}
-use Rattle.key_types.specs.CheckKeyType.{check_key_type}
-use Rattle.key_types.proofs.Laws.{set_anywhere}
+use Rattle.types.specs.CheckKeyType.{check_key_type}
+use Rattle.types.proofs.Laws.{set_anywhere}
 use Rattle.keys.specs.KeyFindings.{key_rules, key_findings}
 use Rattle.keys.specs.Steps.{by_device, quiet}
 use Rattle.keys.proofs.Others.{judged, fields_none, states_none}

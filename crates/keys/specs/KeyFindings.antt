@@ -4,7 +4,7 @@ use Rattle.findings.specs.Findings.{Finding}
 use Rattle.book.specs.Book.{Bkey, Book}
 use Rattle.fields.specs.CheckKeyDevice.{check_key_device}
 use Rattle.fields.specs.CheckKeyFields.{check_key_fields}
-use Rattle.key_types.specs.CheckKeyType.{check_key_type}
+use Rattle.types.specs.CheckKeyType.{check_key_type}
 use Rattle.states.specs.CheckStateWords.{check_state_words}
 
 -- "Each key in turn: `check_key_device`, `check_key_fields`, `check_state_words`"; document 02, ticket 4: "The rule goes

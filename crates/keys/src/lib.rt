@@ -27,7 +27,7 @@ fn judge_key(
 {
     let a = fields::check_key_device(k, device, i, out, counts);
     let from = start_of(out.len(), a);
-    let b = a + key_types::check_key_type(k, i, &mut out[from..], counts);
+    let b = a + types::check_key_type(k, i, &mut out[from..], counts);
     let from = start_of(out.len(), b);
     let c = b + fields::check_key_fields(k, value, i, &mut out[from..], counts);
     let from = start_of(out.len(), c);

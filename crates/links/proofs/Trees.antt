@@ -1,40 +1,56 @@
 -- The two maps that the pairs of the keys stand for.
-use Prim.Native.Nat.{ℕ, ◌+◌, ◌*◌, ◌%◌, ◌^◌, ◌<◌}
-use mathlib.Core.Path.{◌≡◌}
-use mathlib.Core.Bool.{true}
+use Prim.Native.Nat.{ℕ, ◌+◌, ◌*◌, ◌%◌, ◌^◌, ◌≤◌, ◌<◌}
+use mathlib.Core.Path.{◌≡◌, refl, sym, subst}
+use mathlib.Core.Bool.{Bool, true, false, cond}
 use mathlib.Core.List.{List}
-use lib.ListN.{get_or, drop}
+use native.Mathlib.Omega.{arith}
+use lib.ListN.{length, get_or, drop}
 use Rattle.bits.specs.Bits.{le_at}
 use Rattle.findings.specs.Findings.{each}
 use Rattle.pairs.specs.declared.MaybeU64.TheVariants as u64
 use Rattle.pairs.specs.Pairs.{pairs_of}
 use Rattle.book.specs.declared.Header.{Header}
 use Rattle.book.specs.declared.Places.{Places}
+use Rattle.book.specs.declared.KeyFront.{KeyFront}
 use Rattle.book.specs.declared.MaybeU32.TheVariants as u32
 use Rattle.book.specs.Maps.{lookup}
-use Rattle.book.specs.Book.{Bkey, keys_from, book_of}
-use Rattle.book.specs.Walk.{maybe_u32}
+use Rattle.book.specs.Book.{Bkey, key_head, keys_from, book_of}
+use Rattle.book.specs.Walk.{front_of, maybe_u32}
 use Rattle.book.proofs.Walk.{parts}
-use Rattle.walk.specs.Keys.{key_at}
+use Rattle.walk.specs.Keys.{key_at, AtKey}
 use Rattle.book.specs.KeyMaps.{map_of}
 use Rattle.maps.specs.Places.{last_place, last_places}
 use Rattle.maps.specs.Sorted.{last_at}
-use Rattle.maps.proofs.Places.{Held, find_law, find_held, each_map, last_held}
+use Rattle.maps.proofs.Places.{Held, find_law, find_held, each_map, last_held, held_at}
 use Rattle.maps.specs.LastKeys.{word_at}
 use Rattle.book.specs.Words.{holds, tree_word, master_word, root_word, id_of}
 use Rattle.links.specs.SnapshotLinks.{tree_map, tree_of_map, tree_findings}
-use Rattle.links.specs.Steps.{root_named, tree_at}
+use Rattle.links.specs.Steps.{root_named, tree_at, source_of, Ready}
 use Rattle.drawn.specs.Classes.{latest}
 use Rattle.drawn.proofs.Classes.{bytes_of, trees_give, latest_law, latest_held}
-use Rattle.parents.specs.Sources.{Ready}
+use Rattle.drawn.proofs.Scan.{holds_long}
+use Rattle.parents.specs.declared.Source.{Source}
+use Rattle.parents.specs.declared.Source.TheVariants.{Table, Pairs}
+use Rattle.parents.specs.Sources.{Sourced}
 
 -- ---- what is looked up
+
+-- a key that was found is at hand once its front is read
+module _ (b t m : ℕ) {s : List ℕ} {x q : ℕ} (small : length s ≤ 1048576) (held : Held (holds b t m) id_of s x q) where
+  pub held_head : (length s ≤ 1048576) × (q + 4 ≤ length s)
+  held_head = (small, omega (arith, held.head))
+
+  pub held_key : {f : KeyFront} → f ≡ front_of (key_head s q) → AtKey s q f × (m ≤ f.len)
+  held_key e = let k = held_at small held e in (k, holds_long k b t m held.passes)
 
 -- the words of a tree record
 abbrev tree_words : Bkey → ℕ × ℕ
 tree_words k = (master_word k, root_word k)
 
 module _ {s : List ℕ} {h : Header} {at : Places} {w : List ℕ} {n : ℕ} (r : Ready s h at w n) where
+  pub ready_small : length s ≤ 1048576
+  ready_small = r.pairs.small
+
   trees_keys : tree_map (book_of s) ≡ map_of (holds 15 31 8) id_of tree_words (keys_from s h.keys at.keys)
   unfolding tree_map
   trees_keys = rw (parts r.opened).keys
@@ -70,6 +86,15 @@ module _ {s : List ℕ} {h : Header} {at : Places} {w : List ℕ} {n : ℕ} (r :
     pub name_absent : latest 2 id (pairs_of w n) ≡ u64.Absent → u32.Absent ≡ maybe_u32 (lookup id (tree_of_map (book_of s)))
     unfolding maybe_u32 word_at
     name_absent e = rw (names_keys, latest_names, e)
+
+  -- the parents are found where `source_of` says
+  pub ready_source : {src : Source} → src ≡ source_of h at n → Sourced s w src
+  unfolding source_of Sourced
+  ready_source e = subst (Sourced s w) (sym e) (by h.drawn refl)
+    where
+      by : (d : Bool) → h.drawn ≡ d → Sourced s w (cond d (Pairs n) (Table at.parents h.parents))
+      by true d = record { room = r.room; count = h.keys; start = at.keys; all = r.pairs; drawn = (parts r.opened).drawn d }
+      by false d = record { rises = (parts r.opened).parents_rise; table = (parts r.opened).parents d }
 
   -- the trees in id order are the last places of tree records
   pub last_tree : (i : ℕ) → i < n → ((k : ℕ) → get_or w k 0 < 2 ^ 64) → last_at 0 (drop i (pairs_of w n)) ≡ true → Held (holds 15 31 8) id_of s (get_or w (2 * i) 0) (get_or w (2 * i + 1) 0 % 2 ^ 32)

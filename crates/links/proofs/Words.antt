@@ -27,7 +27,6 @@ use Rattle.ancestors.specs.declared.Line.{Line}
 use Rattle.ancestors.proofs.Laws.{among}
 use Rattle.book.specs.Words.{holds, subvolume_word, tree_word, depth_word, skip_words, id_of}
 use Rattle.links.specs.SnapshotLinks.{tree_map, tree_of_map, is_the, is_other, master_findings, tree_findings, names_root, wrong_depth, bad_child, bad_skip, root_findings, backref_findings, child_findings, skip_findings, link_findings, snapshot_links}
-use Rattle.child_words.specs.ChildWords.{child_word_findings}
 use Rattle.links.specs.Steps.{word_in, root_in, root_named, same_root}
 
 -- the enums say what they were made from
@@ -117,8 +116,7 @@ module _ (t : List (ℕ × ℕ)) (k : Bkey) {ids : List ℕ} {l : Line} (h : Lin
 
 pub links_shown : (b : Book) (t : List (ℕ × ℕ)) (k : Bkey) {ids : List ℕ} {l : Line} → parents_of b ≡ t → l.id ≡ id_of k → Lined t ids l
     → root_findings k l.id (lookup (tree_word k) (tree_map b)) (root_in l.root)
-    ++ (backref_findings k l.id (lookup (subvolume_word k) b.subvolumes)
-    ++ (child_findings k l.id (parents_of b) ++ (child_word_findings b k ++ skip_findings k l.id (take l.len ids))))
+    ++ (backref_findings k l.id (lookup (subvolume_word k) b.subvolumes) ++ (child_findings k l.id (parents_of b) ++ skip_findings k l.id (take l.len ids)))
     ≡ link_findings b k
 unfolding link_findings
 links_shown b t k p i h = rw (skips_same t k h, h.root_is, root_back _, p, i)

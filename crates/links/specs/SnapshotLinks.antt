@@ -1,4 +1,4 @@
--- The rule `snapshot_links` (document 01, kinds 31 and 39 to 45; document 02, ticket 7, kinds 51 and 52).
+-- The rule `snapshot_links` (document 01, kinds 31 and 39 to 45).
 use Rattle.std.specs.Prelude.{ℕ, Bool, false, not, ◌&&◌, List, [], ◌∷◌, ◌++◌, length, eqb}
 use Rattle.std.proofs.Math.Option.{Option, none, some}
 use Rattle.findings.specs.Findings.{Finding, finding, when, only, each, keep}
@@ -8,7 +8,6 @@ use Rattle.book.specs.Book.{Bkey, Book}
 use Rattle.parents.specs.Roots.{root_of, above}
 use Rattle.book.specs.KeyMaps.{map_of, parents_of}
 use Rattle.book.specs.Words.{holds, child_words, subvolume_word, tree_word, depth_word, skip_words, master_word, root_word, id_of}
-use Rattle.child_words.specs.ChildWords.{child_word_findings}
 
 -- THE MAPS MADE FROM THE KEYS
 
@@ -83,13 +82,13 @@ skip_findings k id ids =
     let bad = length (keep (bad_skip id ids) (skip_words k)) in
     when (not (eqb bad 0)) (finding 45 id bad)
 
--- what a snapshot gives, in that order; 51 and 52 "directly after the place of its kind 44 findings"
+-- what a snapshot gives, in that order
 unfoldable pub link_findings : Book → Bkey → List Finding
 link_findings b k =
     let id = id_of k in
     root_findings k id (lookup (tree_word k) (tree_map b)) (root_of (parents_of b) id)
     ++ (backref_findings k id (lookup (subvolume_word k) b.subvolumes)
-    ++ (child_findings k id (parents_of b) ++ (child_word_findings b k ++ skip_findings k id (above (parents_of b) id))))
+    ++ (child_findings k id (parents_of b) ++ skip_findings k id (above (parents_of b) id)))
 
 -- nothing without the trees mark; then the trees in id order, and the snapshots of 40 value bytes or more in key order
 unfoldable pub snapshot_links : Book → List Finding

@@ -1,12 +1,20 @@
 -- What only contracts of private functions cite.
-use Rattle.std.specs.Prelude.{ℕ, Bool, false, List}
+use Rattle.std.specs.Prelude.{ℕ, ◌*◌, ◌≤◌, Bool, false, cond, List, [], ◌∷◌, length}
 use Rattle.std.proofs.Math.Option.{Option, none, some}
+use Rattle.pairs.specs.Pairs.{pairs_of}
+use Rattle.book.specs.declared.Header.{Header}
+use Rattle.book.specs.declared.Places.{Places}
 use Rattle.book.specs.declared.MaybeU32.{MaybeU32}
 use Rattle.book.specs.declared.MaybeU32.TheVariants.{Is, Absent}
 use Rattle.book.specs.Book.{Bkey}
+use Rattle.book.specs.Walk.{Opened}
 use Rattle.walk.specs.Keys.{key_at}
 use Rattle.parents.specs.declared.Root.{Root}
 use Rattle.parents.specs.declared.Root.TheVariants.{At, NoRoot}
+use Rattle.maps.specs.Sorted.{AllPairs}
+use Rattle.drawn.specs.Classes.{link_pair}
+use Rattle.parents.specs.declared.Source.{Source}
+use Rattle.parents.specs.declared.Source.TheVariants.{Table, Pairs}
 use Rattle.book.specs.Words.{master_word, root_word}
 use Rattle.links.specs.SnapshotLinks.{is_the}
 
@@ -32,3 +40,14 @@ same_root word (some root) = is_the root.0 word
 -- an id and the place of its tree record, as the pair that they are in the map of trees
 abbrev pub tree_at : List ℕ → ℕ × ℕ → ℕ × (ℕ × ℕ)
 tree_at s e = (e.0, (master_word (key_at s e.1), root_word (key_at s e.1)))
+
+-- of an accepted book the first n pairs of w are those of all keys, sorted
+pub record Ready (s : List ℕ) (h : Header) (at : Places) (w : List ℕ) (n : ℕ) : Type 0 where
+  pub opened : Opened s h at
+  pub few : n ≤ h.keys
+  pub room : 2 * n ≤ length w
+  pub pairs : AllPairs link_pair s h.keys at.keys (pairs_of w n)
+
+-- where the parents of such a book are found
+unfoldable pub source_of : Header → Places → ℕ → Source
+source_of h at n = cond h.drawn (Pairs n) (Table at.parents h.parents)

@@ -8,10 +8,9 @@ ghost use Rattle.book.specs.KeyMaps.{parents_of};
 ghost use Rattle.book.specs.Walk.{Opened, maybe_u32};
 ghost use Rattle.walk.specs.Keys.{key_at, AtKey};
 ghost use Rattle.maps.specs.Sorted.{last_at};
-ghost use Rattle.drawn.specs.Classes.{latest};
-ghost use Rattle.parents.specs.Sources.{reach_of, source_of, Ready};
+ghost use Rattle.parents.specs.Sources.{reach_of};
 ghost use Rattle.ancestors.specs.Lines.{Lined};
-ghost use Rattle.book.specs.Words.{holds, parent_word, subvolume_word, tree_word, skip_words, id_of};
+ghost use Rattle.book.specs.Words.{holds, subvolume_word, tree_word, skip_words, id_of};
 ghost use Rattle.links.specs.SnapshotLinks.{
   treeMap,
   treeOfMap,
@@ -29,21 +28,19 @@ ghost use Rattle.links.specs.SnapshotLinks.{
   linkFindings,
   snapshotLinks,
 };
-ghost use Rattle.links.specs.Steps.{word_in, root_in, root_named, same_root, tree_at};
+ghost use Rattle.links.specs.Steps.{word_in, root_in, root_named, same_root, tree_at, source_of, Ready};
 
 use ancestors::Line;
 use book::{Header, KeyFront, MaybeU32, Places};
-use child_words::show_child_words;
 use findings::{emit, emit_if};
 use pairs::MaybeU64;
-use parents::Root;
+use parents::{Root, Source};
 
-// How many findings there are with those of a key, the line of the last snapshot, and where among the pairs its parent was looked for.
+// How many findings there are with those of a key, and the line of the last snapshot.
 #[derive(Drop)]
 struct Shown {
     found: usize,
     line: Line,
-    near: usize,
 }
 
 // Whether a word is there and is x.
@@ -96,6 +93,16 @@ fn snapshot_of(book: &[u8], h: Header, at: Places, id: u32) -> MaybeU32
     found.word
 }
 
+// Where the parents are found, once the first n pairs of the work words are those of all keys.
+fn source_of(h: Header, at: Places, n: usize) -> Source
+    ensures { result ≡ source_of h at n }
+{
+    if h.drawn {
+        return Source::Pairs(n);
+    }
+    Source::Table(at.parents, h.parents as usize)
+}
+
 // Whether a child is there that does not have this snapshot as its parent.
 fn bad_child(
     book: &[u8],
@@ -112,7 +119,7 @@ fn bad_child(
     if child == 0 {
         return false;
     }
-    let source = parents::source_of(h, at, n);
+    let source = source_of(h, at, n);
     let near = parents::reach(source);
     let found = parents::parent_in(book, work, source, near, child);
     let parent = found.word;
@@ -282,7 +289,7 @@ fn show_root(
     emit_if(out, counts, found, wrong, 42, id as u64, depth as u64)
 }
 
-// The findings of the snapshot at byte p, by its line and by the place of its parent's key.
+// The findings of the snapshot at byte p, by its line.
 fn show_links(
     book: &[u8],
     h: Header,
@@ -293,27 +300,24 @@ fn show_links(
     f: KeyFront,
     line: Line,
     ids: &[u32; 1024],
-    place: MaybeU64,
     out: &mut [u8],
     counts: &mut [u64],
     m: usize,
 ) -> usize
     requires ready { Ready book.now h at work.now n × AtKey book.now p f × (40 ≤ f.len) × (m < 2 ^ 61) }
-    requires lined { Lined (parents_of (book_of book.now)) ids.now line × (line.id ≡ id_of (key_at book.now p)) × (place ≡ latest 3 (parent_word (key_at book.now p)) (pairs_of work.now n)) }
+    requires lined { Lined (parents_of (book_of book.now)) ids.now line × (line.id ≡ id_of (key_at book.now p)) }
     ensures added { Added (sink out.old counts.old) m (linkFindings (book_of book.now) (key_at book.now p)) result (sink out.new counts.new) }
-    ensures few { result ≤ m + 8 }
+    ensures few { result ≤ m + 6 }
 {
     let id = line.id;
     let root = line.root;
     let m = show_root(book, h, at, work, n, p, f, id, root, out, counts, m);
     let m = show_backref(book, h, at, p, f, id, out, counts, m);
     let m = show_children(book, h, at, work, n, p, f, id, out, counts, m);
-    let m = show_child_words(book, h, at, work, n, p, f, id, place, out, counts, m);
     show_skips(book, p, f, id, ids, line.len, out, counts, m)
 }
 
-// The findings of the key at byte p, if it is a snapshot with all its words: its line is found from that of the snapshot before, and its parent's key
-// from the place `near`, where that of the snapshot before was looked for.
+// The findings of the key at byte p, if it is a snapshot with all its words: its line is found from that of the snapshot before.
 fn show_snapshot(
     book: &[u8],
     h: Header,
@@ -323,7 +327,6 @@ fn show_snapshot(
     p: usize,
     f: KeyFront,
     line: Line,
-    near: usize,
     ids: &mut [u32; 1024],
     hints: &mut [u16],
     out: &mut [u8],
@@ -331,30 +334,19 @@ fn show_snapshot(
     m: usize,
 ) -> Shown
     requires ready { Ready book.now h at work.now n × AtKey book.now p f × (m < 2 ^ 61) }
-    requires lined_2 { Lined (parents_of (book_of book.now)) ids.old line × (line.near ≤ reach_of (source_of h at n)) × (near ≤ n) }
+    requires lined_2 { Lined (parents_of (book_of book.now)) ids.old line × (line.near ≤ reach_of (source_of h at n)) }
     ensures added { Added (sink out.old counts.old) m (only (holds 9 22 40 (key_at book.now p)) (linkFindings (book_of book.now) (key_at book.now p))) result.found (sink out.new counts.new) }
-    ensures few { result.found ≤ m + 8 }
-    ensures lined { Lined (parents_of (book_of book.now)) ids.new result.line × (result.line.near ≤ reach_of (source_of h at n)) × (result.near ≤ n) }
+    ensures few { result.found ≤ m + 6 }
+    ensures lined { Lined (parents_of (book_of book.now)) ids.new result.line × (result.line.near ≤ reach_of (source_of h at n)) }
 {
     if ((f.btree == 9) & (f.key_type == 22)) & (40 <= f.len) {
         let id = drawn::key_id(book, p, f);
-        let source = parents::source_of(h, at, n);
+        let source = source_of(h, at, n);
         let next = ancestors::line_beside(book, work, source, line, id, ids, hints);
-        let parent = walk::key_word(book, p, f, 4);
-        let key = drawn::find_snapshot(work, n, near, 3, parent);
-        let place = key.place;
-        let found = show_links(book, h, at, work, n, p, f, next, ids, place, out, counts, m);
-        return Shown {
-            found,
-            line: next,
-            near: key.at,
-        };
+        let found = show_links(book, h, at, work, n, p, f, next, ids, out, counts, m);
+        return Shown { found, line: next };
     }
-    Shown {
-        found: m,
-        line,
-        near,
-    }
+    Shown { found: m, line }
 }
 
 // The findings of the snapshots, in key order. The hints say where a walk up a chain found its parents before.
@@ -370,23 +362,21 @@ fn walk_snapshots(
 ) -> usize
     requires { Ready book.now h at work.now n }
     ensures found { Found (sink out.old counts.old) (each (λ _ k. only (holds 9 22 40 k) (linkFindings (book_of book.now) k)) 0 (book_of book.now).keys) result (sink out.new counts.new) }
-    ensures few { result ≤ h.keys * 8 }
+    ensures few { result ≤ h.keys * 6 }
 {
     let mut ids = [0u32; 1024];
-    let source = parents::source_of(h, at, n);
+    let source = source_of(h, at, n);
     let mut line = ancestors::line_of(book, work, source, 0, 0, &mut ids, hints);
-    let mut near = n;
     let mut found: usize = 0;
     let mut left = h.keys;
     let mut p = at.keys;
     while 0 < left {
         let f = book::key_front(book, p);
         let shown = show_snapshot(
-            book, h, at, work, n, p, f, line, near, &mut ids, hints, out, counts, found,
+            book, h, at, work, n, p, f, line, &mut ids, hints, out, counts, found,
         );
         found = shown.found;
         line = shown.line;
-        near = shown.near;
         p = p + 28 + f.len;
         left -= 1;
     }
@@ -405,7 +395,7 @@ fn walk_with_hints(
 ) -> usize
     requires { Ready book.now h at work.now n }
     ensures found { Found (sink out.old counts.old) (each (λ _ k. only (holds 9 22 40 k) (linkFindings (book_of book.now) k)) 0 (book_of book.now).keys) result (sink out.new counts.new) }
-    ensures few { result ≤ h.keys * 8 }
+    ensures few { result ≤ h.keys * 6 }
 {
     let mut hints = [0u16; 4096];
     walk_snapshots(book, h, at, work, n, &mut hints, out, counts)
@@ -426,7 +416,7 @@ fn show_snapshots(
 ) -> usize
     requires { Ready book.now h at work.now n }
     ensures found { Found (sink out.old counts.old) (each (λ _ k. only (holds 9 22 40 k) (linkFindings (book_of book.now) k)) 0 (book_of book.now).keys) result (sink out.new counts.new) }
-    ensures few { result ≤ h.keys * 8 }
+    ensures few { result ≤ h.keys * 6 }
 {
     if h.parents < FEW_PARENTS {
         let mut none = [0u16; 0];
@@ -546,7 +536,7 @@ fn show_all(
 ) -> usize
     requires { Ready book.now h at work.now n }
     ensures found { Found (sink out.old counts.old) (each (λ _ e. treeFindings (book_of book.now) e) 0 (treeMap (book_of book.now)) ++ each (λ _ k. only (holds 9 22 40 k) (linkFindings (book_of book.now) k)) 0 (book_of book.now).keys) result (sink out.new counts.new) }
-    ensures few { result ≤ h.keys * 10 }
+    ensures few { result ≤ h.keys * 8 }
 {
     let trees = show_trees(book, h, at, work, n, out, counts);
     let from = findings::start_of(out.len(), trees);
@@ -564,7 +554,7 @@ pub fn snapshot_links(
 ) -> usize
     requires { Opened book.now h at × (2 * h.keys ≤ length work.old) }
     ensures found { Found (sink out.old counts.old) (snapshotLinks (book_of book.now)) result (sink out.new counts.new) }
-    ensures few { result ≤ h.keys * 10 }
+    ensures few { result ≤ h.keys * 8 }
 {
     if !h.trees {
         return 0;

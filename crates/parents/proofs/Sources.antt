@@ -1,28 +1,23 @@
 -- What a source says of the parents.
-use Prim.Native.Nat.{ℕ, ◌≤◌}
-use mathlib.Core.Path.{◌≡◌, refl, sym, ap, subst, ◌∙◌}
-use mathlib.Core.Bool.{Bool, true, false, cond}
+use Prim.Native.Nat.{ℕ}
+use mathlib.Core.Path.{◌≡◌, sym, ap, subst, ◌∙◌}
 use mathlib.Core.List.{List}
 use mathlib.Core.Option.{Option}
-use lib.ListN.{length}
 use Rattle.pairs.specs.declared.MaybeU64.{MaybeU64}
 use Rattle.pairs.specs.Pairs.{pairs_of, Sorted}
 use Rattle.pairs.proofs.Order.{sorted_by}
-use Rattle.book.specs.declared.Header.{Header}
-use Rattle.book.specs.declared.Places.{Places}
 use Rattle.book.specs.declared.MaybeU32.{MaybeU32}
 use Rattle.book.specs.Maps.{lookup}
 use Rattle.book.specs.Book.{words_from, book_of}
 use Rattle.book.specs.KeyMaps.{parents_of}
 use Rattle.book.specs.Words.{holds, parent_word, id_of}
 use Rattle.book.specs.Walk.{maybe_u32}
-use Rattle.book.proofs.Walk.{parts}
 use Rattle.maps.specs.LastKeys.{last_key, word_at}
 use Rattle.drawn.specs.Classes.{latest, SnapshotAt}
 use Rattle.drawn.proofs.Drawn.{drawn_latest, latest_snapshot, drawn_last, last_snapshot}
 use Rattle.parents.specs.declared.Source.{Source}
 use Rattle.parents.specs.declared.Source.TheVariants.{Table, Pairs, Keys}
-use Rattle.parents.specs.Sources.{reach_of, ByTable, ByPairs, ByKeys, Sourced, Ready, source_of}
+use Rattle.parents.specs.Sources.{reach_of, ByTable, ByPairs, ByKeys, Sourced}
 
 -- ---- by the kind of the source
 module _ (s w : List ℕ) {src : Source} (h : Sourced s w src) where
@@ -71,17 +66,3 @@ pairs_snapshot {s} b id e = subst (SnapshotAt s) (sym e) (latest_snapshot b.all 
 
 pub keys_snapshot : {s : List ℕ} {start count : ℕ} → ByKeys s start count → (id : ℕ) {m : MaybeU64} → m ≡ last_key (holds 9 22 8) id_of s id count start → SnapshotAt s m
 keys_snapshot {s} {start} {count} b id e = subst (SnapshotAt s) (sym e) (last_snapshot s count start id b.small b.fit)
-
--- ---- once the pairs of all keys are at hand
-module _ {s : List ℕ} {h : Header} {at : Places} {w : List ℕ} {n : ℕ} (r : Ready s h at w n) where
-  pub ready_small : length s ≤ 1048576
-  ready_small = r.pairs.small
-
-  -- the parents are found where `source_of` says
-  pub ready_source : {src : Source} → src ≡ source_of h at n → Sourced s w src
-  unfolding source_of Sourced
-  ready_source e = subst (Sourced s w) (sym e) (by h.drawn refl)
-    where
-      by : (d : Bool) → h.drawn ≡ d → Sourced s w (cond d (Pairs n) (Table at.parents h.parents))
-      by true d = record { room = r.room; count = h.keys; start = at.keys; all = r.pairs; drawn = (parts r.opened).drawn d }
-      by false d = record { rises = (parts r.opened).parents_rise; table = (parts r.opened).parents d }

@@ -1,11 +1,9 @@
 -- Where the parents of a book are found.
-use Rattle.std.specs.Prelude.{ℕ, ◌*◌, ◌≤◌, ◌≡◌, cond, List, length}
+use Rattle.std.specs.Prelude.{ℕ, ◌*◌, ◌≤◌, ◌≡◌, List, length}
 use Rattle.pairs.specs.Pairs.{pairs_of}
-use Rattle.book.specs.declared.Header.{Header}
-use Rattle.book.specs.declared.Places.{Places}
 use Rattle.book.specs.Book.{words_table, words_from, keys_from, book_of}
 use Rattle.book.specs.KeyMaps.{drawn_from, parents_of}
-use Rattle.book.specs.Walk.{Rising, KeysFit, Opened}
+use Rattle.book.specs.Walk.{Rising, KeysFit}
 use Rattle.maps.specs.Sorted.{AllPairs}
 use Rattle.drawn.specs.Classes.{link_pair}
 use Rattle.parents.specs.declared.Source.{Source}
@@ -41,14 +39,3 @@ unfoldable pub Sourced : List ℕ → List ℕ → Source → Type 0
 Sourced s w (Table start count) = ByTable s start count
 Sourced s w (Pairs n) = ByPairs s w n
 Sourced s w (Keys start count) = ByKeys s start count
-
--- of an accepted book the first n pairs of w are those of all keys, sorted
-pub record Ready (s : List ℕ) (h : Header) (at : Places) (w : List ℕ) (n : ℕ) : Type 0 where
-  pub opened : Opened s h at
-  pub few : n ≤ h.keys
-  pub room : 2 * n ≤ length w
-  pub pairs : AllPairs link_pair s h.keys at.keys (pairs_of w n)
-
--- where the parents of such a book are found
-unfoldable pub source_of : Header → Places → ℕ → Source
-source_of h at n = cond h.drawn (Pairs n) (Table at.parents h.parents)

@@ -6,9 +6,9 @@ ghost use Rattle.book.specs.KeyMaps.{parents_of};
 ghost use Rattle.book.specs.Walk.{Rising, maybe_u32};
 ghost use Rattle.parents.specs.Roots.{root_of};
 ghost use Rattle.parents.specs.Chains.{root_answer};
-ghost use Rattle.parents.specs.Sources.{reach_of, ByPairs, ByKeys, Sourced, source_of};
+ghost use Rattle.parents.specs.Sources.{reach_of, ByPairs, ByKeys, Sourced};
 
-use book::{Header, MaybeU32, Places};
+use book::MaybeU32;
 use tables::WordAt;
 
 // A view onto the parents table of a lent book.
@@ -59,16 +59,6 @@ pub fn parent_of(book: &[u8], start: usize, count: usize, near: usize, id: u32) 
     ensures { (result.word ≡ maybe_u32 (lookup id (words_from book.now count start))) × (result.at ≤ count) }
 {
     get(view(book, start, count), near, id)
-}
-
-// Where the parents of an accepted book are found, once the first n pairs of the work words are those of all keys.
-pub fn source_of(h: Header, at: Places, n: usize) -> Source
-    ensures { result ≡ source_of h at n }
-{
-    if h.drawn {
-        return Source::Pairs(n);
-    }
-    Source::Table(at.parents, h.parents as usize)
 }
 
 // How far a place near an id's own may lie.

@@ -1,4 +1,4 @@
--- Demand 3, and ticket 7 of document 02, on the list of all rules: of their findings those of `snapshot_links` alone can be of a forest kind.
+-- Demand 3 on the list of all rules: of their findings those of `snapshot_links` alone can be of a forest kind.
 use Prim.Native.Nat.{ℕ}
 use mathlib.Core.Bool.{Bool, true, false, true≢false, not, ◌&&◌, ◌||◌}
 use mathlib.Core.Logic.{◌↔◌}
@@ -24,9 +24,7 @@ use Rattle.gens.specs.BucketGensAgainstAlloc.{bucket_gens_against_alloc}
 use Rattle.buckets.specs.FreeSpace.{free_space}
 use Rattle.forest.specs.Lists.{◌∈◌}
 use Rattle.forest.specs.Forest.{snapshots, ForestBook, forest_kinds, Absent, Demand3}
-use Rattle.forest.specs.Children.{Without, ChildrenExact}
 use Rattle.forest.proofs.Absent.{absent_append, absent_kinds}
-use Rattle.forest.proofs.Children.{without_append, children}
 use Rattle.forest.proofs.Rules.{rootless}
 use Rattle.forest.proofs.Theorem.{forest}
 use Rattle.keys.specs.KeyFindings.{key_findings}
@@ -73,38 +71,13 @@ links_alone b =
 pub demand_3 : (b : Book) → ForestBook b → Demand3 b (findings_of b)
 demand_3 b F = forest b F (findings_of b) (links_alone b)
 
--- what `snapshot_links` finds is in the list
-pub links_among : (b : Book) (f : Finding) → f ∈ snapshot_links b → f ∈ findings_of b
+-- "In a forest book a snapshot without a root always gives kind 41 or 42, whatever its other words hold": it gives 41
+pub rootless_found : (b : Book) → ForestBook b → (s : Bkey) → s ∈ snapshots b → root_of (parents_of b) s.offset ≡ none → finding 41 s.offset (tree_word s) ∈ findings_of b
 unfolding findings_of
-links_among b f m =
+rootless_found b F s m e =
     Memᴰ.append_right (each (key_findings b) 0 b.keys)
     (Memᴰ.append_right (subvolume_states b)
     (Memᴰ.append_right (snapshot_claims b)
     (Memᴰ.append_right (snapshot_states b)
     (Memᴰ.append_right (snapshot_subvol_flags b)
-    (Memᴰ.append_right (subvolume_children b) (Memᴰ.append_left (bucket_gens_against_alloc b ++ free_space b) m))))))
-
--- "In a forest book a snapshot without a root always gives kind 41 or 42, whatever its other words hold": it gives 41
-pub rootless_found : (b : Book) → ForestBook b → (s : Bkey) → s ∈ snapshots b → root_of (parents_of b) s.offset ≡ none → finding 41 s.offset (tree_word s) ∈ findings_of b
-rootless_found b F s m e = links_among b _ (rootless b F s m e)
-
--- and kinds 51 and 52 are of no other rule
-not_children : (ks : List ℕ) (fs : List Finding) → apart ks (51 ∷ 52 ∷ []) ≡ true → Within ks fs → (k : ℕ) → has k (51 ∷ 52 ∷ []) ≡ true → Without k fs
-not_children ks fs a w k h f m e =
-    true≢false (sym h ∙ ap (λ (y : ℕ). has y (51 ∷ 52 ∷ [])) (sym e) ∙ apart_has f.kind ks (51 ∷ 52 ∷ []) a (w.kind f m))
-
-links_only : (b : Book) (k : ℕ) → has k (51 ∷ 52 ∷ []) ≡ true → Without k (snapshot_links b) → Without k (findings_of b)
-unfolding findings_of apart has
-links_only b k h links =
-    without_append k (each (key_findings b) 0 b.keys) _ (not_children _ _ refl (key_kinds_lem b) k h)
-    (without_append k (subvolume_states b) _ (not_children _ _ refl (subvolume_kinds b) k h)
-    (without_append k (snapshot_claims b) _ (not_children _ _ refl (claim_kinds b) k h)
-    (without_append k (snapshot_states b) _ (not_children _ _ refl (state_kinds b) k h)
-    (without_append k (snapshot_subvol_flags b) _ (not_children _ _ refl (flag_kinds b) k h)
-    (without_append k (subvolume_children b) _ (not_children _ _ refl (child_kinds b) k h)
-    (without_append k (snapshot_links b) _ links
-    (without_append k (bucket_gens_against_alloc b) _ (not_children _ _ refl (gen_kinds b) k h) (not_children _ _ refl (run_kinds b) k h))))))))
-
--- TICKET 7, on the list
-pub children_exact : (b : Book) → ForestBook b → ChildrenExact b (findings_of b)
-children_exact b F = children b F (findings_of b) (record { has_links = links_among b; links_only = links_only b })
+    (Memᴰ.append_right (subvolume_children b) (Memᴰ.append_left (bucket_gens_against_alloc b ++ free_space b) (rootless b F s m e)))))))

@@ -16,7 +16,7 @@ use Rattle.book.specs.Maps.{lookup}
 use Rattle.book.specs.Book.{Bkey, is}
 use Rattle.fields.specs.CheckKeyDevice.{check_key_device}
 use Rattle.fields.specs.CheckKeyFields.{check_key_fields}
-use Rattle.key_types.specs.CheckKeyType.{key_types_anywhere, key_types_allowed, outside, foreign_type, check_key_type}
+use Rattle.types.specs.CheckKeyType.{key_types_anywhere, key_types_allowed, outside, foreign_type, check_key_type}
 use Rattle.states.specs.CheckStateWords.{check_state_words}
 use Rattle.keys.specs.KeyFindings.{key_rules}
 use Rattle.keys.proofs.Foreign.{fields_foreign, states_foreign, rules_turn}

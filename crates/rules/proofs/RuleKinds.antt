@@ -12,14 +12,13 @@ use Rattle.pairs.specs.Pairs.{has}
 use Rattle.book.specs.Book.{Bkey, Book}
 use Rattle.fields.specs.CheckKeyDevice.{check_key_device}
 use Rattle.fields.specs.CheckKeyFields.{check_key_fields, check_accounting_key, check_inode_v3_word, check_snapshot_pad, check_alloc_v4_value, check_position}
-use Rattle.key_types.specs.CheckKeyType.{check_key_type}
+use Rattle.types.specs.CheckKeyType.{check_key_type}
 use Rattle.states.specs.CheckStateWords.{check_state_words, snapshot_state, subvolume_state, subvolume_word}
 use Rattle.subvolumes.specs.SubvolumeStates.{subvolume_states, subvolume_findings}
 use Rattle.claims.specs.SnapshotClaims.{snapshot_claims, claim_findings}
 use Rattle.deletions.specs.SnapshotStates.{snapshot_states, snapshot_state_findings}
 use Rattle.snapshots.specs.SnapshotSubvolFlags.{snapshot_subvol_flags, flag_findings}
 use Rattle.children.specs.SubvolumeChildren.{subvolume_children, missing_entry, wrong_entry}
-use Rattle.child_words.specs.ChildWords.{child_word_findings}
 use Rattle.links.specs.SnapshotLinks.{snapshot_links, tree_findings, master_findings, link_findings, root_findings, backref_findings, child_findings, skip_findings}
 use Rattle.gens.specs.BucketGensAgainstAlloc.{bucket_gens_against_alloc, gens_of_key, gen_at, uncovered}
 use Rattle.buckets.specs.FreeSpace.{free_space, run_findings, set_findings, is_free, gap_findings}
@@ -116,7 +115,7 @@ unfolding has subvolume_children missing_entry
 child_kinds b = search (within, entry_kinds) depth 24
 
 pub link_kinds_lem : (b : Book) → Within link_kinds (snapshot_links b)
-unfolding has snapshot_links tree_findings link_findings root_findings backref_findings child_findings child_word_findings skip_findings
+unfolding has snapshot_links tree_findings link_findings root_findings backref_findings child_findings skip_findings
 link_kinds_lem b = search (within, master_kinds) depth 24
 
 pub gen_kinds : (b : Book) → Within (46 ∷ []) (bucket_gens_against_alloc b)

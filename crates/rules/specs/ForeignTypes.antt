@@ -7,7 +7,7 @@ use Rattle.book.specs.Names.{key_logged_op_finsert, key_inode_v3, key_snapshot}
 use Rattle.book.specs.Book.{Bkey, is}
 use Rattle.fields.specs.CheckKeyDevice.{check_key_device}
 use Rattle.fields.specs.CheckKeyFields.{check_key_fields}
-use Rattle.key_types.specs.CheckKeyType.{foreign_type}
+use Rattle.types.specs.CheckKeyType.{foreign_type}
 use Rattle.states.specs.CheckStateWords.{check_state_words}
 use Rattle.keys.specs.KeyFindings.{key_rules}
 

@@ -49,7 +49,7 @@ fn judge_key(bytes: &[u8], s: Section)
     }
     let n = fields::check_key_device(h, 0, s.line, &mut out, &mut counts);
     lines::show_findings(&out, n);
-    let n = key_types::check_key_type(h, s.line, &mut out, &mut counts);
+    let n = types::check_key_type(h, s.line, &mut out, &mut counts);
     lines::show_findings(&out, n);
     let n = fields::check_key_fields(h, &bytes[28..], s.line, &mut out, &mut counts);
     lines::show_findings(&out, n);

@@ -177,7 +177,7 @@ fn downwards(bush: &Bush) -> Vec<usize> {
     places
 }
 
-/// Kinds 33 to 36, 41 to 45, 51, 52: true words, or others.
+/// Kinds 33 to 36, 41 to 45: true words, or others.
 fn snapshot_key(r: &mut Random, bush: &Bush, place: usize) -> Key {
     let (line, has_root) = bush.line(place);
     let skip = |r: &mut Random| match r.below(4) {
@@ -188,7 +188,8 @@ fn snapshot_key(r: &mut Random, bush: &Bush, place: usize) -> Key {
     };
     let skip = [skip(r), skip(r), skip(r)].map(|word| bush.word(r, word));
     let below = &bush.below[place];
-    let children = child_words(r, bush, below).map(|word| bush.word(r, word));
+    let child = |r: &mut Random| if below.is_empty() || r.one_in(4) { 0 } else { bush.ids[r.pick(below)] };
+    let children = [child(r), child(r)].map(|word| bush.word(r, word));
     let subvolume = if place % 8 == 3 { bush.word(r, place as u32) } else { 0 };
     let depth = if has_root { line.len() as u32 } else { r.below(4) as u32 };
     let words = Snapshot {
@@ -204,17 +205,6 @@ fn snapshot_key(r: &mut Random, bush: &Bush, place: usize) -> Key {
     };
     let length = if bush.slips == 0 { 64 } else { r.pick(&[64, 64, 64, 60, 40]) };
     key(SNAPSHOTS, T_SNAPSHOT, 0, bush.ids[place].into(), words.value(length))
-}
-
-/// The first two of those below, in either order; where words slip, in one of 32 any of them or none.
-fn child_words(r: &mut Random, bush: &Bush, below: &[usize]) -> [u32; 2] {
-    let id = |place: usize| below.get(place).map_or(0, |&child| bush.ids[child]);
-    let any = |r: &mut Random| if below.is_empty() || r.one_in(4) { 0 } else { bush.ids[r.pick(below)] };
-    match r.below(2) {
-        _ if bush.slips != 0 && r.one_in(32) => [any(r), any(r)],
-        0 => [id(1), id(0)],
-        _ => [id(0), id(1)],
-    }
 }
 
 /// The first state, or in one of 32 another where words slip.

@@ -2,7 +2,7 @@
 
 use super::random::Random;
 use super::values::*;
-use super::{chains, children, drawn, forest, mixed, runs};
+use super::{chains, drawn, forest, mixed, runs};
 use crate::layout::{Book, DRAWN_MARK, HEADER_BYTES, KEY_HEAD_BYTES, LONGEST_BOOK, LONGEST_VALUE, MOST_PARENTS, TREES_MARK};
 
 /// The bytes of the five counts in the header: keys, parents, subvolumes, gens, alloc.
@@ -15,12 +15,11 @@ pub fn book(r: &mut Random) -> Vec<u8> {
     if r.one_in(16) {
         return noise(r);
     }
-    let mut book = match r.below(6) {
+    let mut book = match r.below(5) {
         0 => mixed::book(r),
         1 => chains::short(r),
         2 => forest::book(r),
         3 => drawn::small(r),
-        4 => children::book(r),
         _ => runs::book(r),
     };
     if r.one_in(4) {

@@ -79,7 +79,7 @@ fn snapshot(w: &mut World) -> Key {
 }
 
 /// In one of n gives a snapshot another btree or type.
-pub fn misplace(r: &mut Random, snapshot: &mut Key, n: u64) {
+fn misplace(r: &mut Random, snapshot: &mut Key, n: u64) {
     if r.one_in(n) {
         (snapshot.btree, snapshot.key_type) = r.pick(&MISPLACED);
     }

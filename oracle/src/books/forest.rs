@@ -130,12 +130,15 @@ fn snapshot_key(r: &mut Random, node: &Node, nodes: &[Node], records: &[u32], ve
     key(SNAPSHOTS, T_SNAPSHOT, 0, node.id.into(), words.value(length))
 }
 
-/// The children in either order.
+/// The true children in either order; now and then one is left out or named twice.
 fn child_words(r: &mut Random, node: &Node, nodes: &[Node]) -> [u32; 2] {
     let id = |place: usize| node.children.get(place).map_or(0, |i| nodes[*i].id);
-    match r.one_in(2) {
-        true => [id(1), id(0)],
-        false => [id(0), id(1)],
+    match r.below(12) {
+        0 => [id(0), 0],
+        1 => [id(0), id(0)],
+        2 => [0, id(1)],
+        3..=6 => [id(1), id(0)],
+        _ => [id(0), id(1)],
     }
 }
 
@@ -168,9 +171,9 @@ fn add_subvolumes(r: &mut Random, nodes: &[Node], book: &mut Book) {
     }
 }
 
-/// Damages one word of one key or of one entry of a table, or what names the children of a snapshot.
+/// Damages one word of one key or of one entry of a table.
 fn damage(r: &mut Random, book: &mut Book) {
-    match r.below(15) {
+    match r.below(12) {
         0 => {
             let place = r.place(book.parents.len());
             book.parents[place] = damaged_entry(r, book, book.parents[place]);
@@ -180,7 +183,6 @@ fn damage(r: &mut Random, book: &mut Book) {
             book.subvolumes[place] = damaged_entry(r, book, book.subvolumes[place]);
         }
         2 | 3 => damage_head(r, book),
-        4..=6 => damage_children(r, book),
         _ => damage_value(r, book),
     }
 }
@@ -201,58 +203,6 @@ fn damage_value(r: &mut Random, book: &mut Book) {
             set_word(r, book, place, at, new);
         }
         None => damage_head(r, book),
-    }
-}
-
-/// Kinds 51, 52: of a snapshot that has children, if there is one, damages the child words, the parent word, the length or
-/// the id; or gives it a second key.
-fn damage_children(r: &mut Random, book: &mut Book) {
-    let first = r.place(book.keys.len());
-    let names = |key: &Key, at: usize| word(&key.value, at).is_some_and(|child| child != 0);
-    let is_parent = |key: &Key| key.btree == SNAPSHOTS && (names(key, CHILD_WORDS) || names(key, CHILD_WORDS + 4));
-    let has_children = |p: &usize| is_parent(&book.keys[*p]);
-    let place = (first..book.keys.len()).chain(0..first).find(has_children).unwrap_or_else(|| damaged_key(r, book));
-    match r.below(8) {
-        0..=2 => damage_child_words(r, book, place),
-        3 | 4 => add_twin(r, book, place),
-        5 => book.keys[place].value.resize(r.pick(&[24, 39, 40, 41, 80]), 0),
-        6 => {
-            let id = book.keys[place].offset as u32;
-            set_word(r, book, place, PARENT_WORD, id);
-        }
-        _ => move_id(r, book, place, 0),
-    }
-}
-
-/// Clears one of the child words or both, exchanges one for another word, or makes both the same.
-fn damage_child_words(r: &mut Random, book: &mut Book, place: usize) {
-    let (this, other) = if r.one_in(2) { (CHILD_WORDS, CHILD_WORDS + 4) } else { (CHILD_WORDS + 4, CHILD_WORDS) };
-    let old = word(&book.keys[place].value, this).unwrap_or(0);
-    let new = match r.below(4) {
-        0 => 0,
-        1 => other_word(r, book, old),
-        _ => word(&book.keys[place].value, other).unwrap_or(0),
-    };
-    let value = &mut book.keys[place].value;
-    put(value, this, &new.to_le_bytes());
-    if r.one_in(8) {
-        put(value, CHILD_WORDS, &[0; 8]);
-    }
-}
-
-/// Puts a second key of a snapshot before it or behind it, beside it or at an end; in three of four books one of both has
-/// other child words or a larger offset.
-fn add_twin(r: &mut Random, book: &mut Book, place: usize) {
-    let twin = book.keys[place].clone();
-    let to = r.pick(&[0, place, place + 1, book.keys.len()]);
-    book.keys.insert(to, twin);
-    let of_both = [to, if to <= place { place + 1 } else { place }];
-    let changed = r.pick(&of_both);
-    match r.below(4) {
-        0 => put(&mut book.keys[changed].value, CHILD_WORDS, &[0; 8]),
-        1 => book.keys[changed].offset |= 1 << 32,
-        2 => {}
-        _ => damage_child_words(r, book, changed),
     }
 }
 

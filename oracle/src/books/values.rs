@@ -47,10 +47,8 @@ pub const SNAPSHOT_STATES: [u32; 4] = [0x757c_47a2, 0x3316_a8d2, 0x372b_5a01, 0x
 /// Versions on both sides of 1.39, with minor and major numbers that are larger and smaller alone.
 pub const VERSIONS: [u16; 10] = [0, 39, 1023, 1024, 1062, 1063, 1064, 2048, 0x7fff, 0xffff];
 
-/// Where the parent word, the two child words and the tree word stand in a snapshot value.
+/// Where the parent word stands in a snapshot value.
 pub const PARENT_WORD: usize = 4;
-pub const CHILD_WORDS: usize = 8;
-pub const TREE_WORD: usize = 20;
 
 /// The words of a snapshot value.
 #[derive(Clone, Default)]

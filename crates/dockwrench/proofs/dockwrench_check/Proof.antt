@@ -2,7 +2,7 @@
 use mathlib.Core.Path.{sym, ap, ◌∙◌}
 use Rattle.dockwrench.specs.Answers.{checked_answer}
 use Rattle.dockwrench.proofs.Laws.{found_few, room_few, check_bounds}
-use Rattle.dockwrench.proofs.Demand3.{claim_as, children_claim}
+use Rattle.dockwrench.proofs.Demand3.{claim_as}
 use borrow.Author.Rules.{rules}
 use native.Mathlib.Omega.{arith}
 use Rattle.dockwrench.proofs.dockwrench_check.Statement.{statement}
@@ -15,8 +15,7 @@ returns c =
     let told = c.before.before.answer.given.1 in
     let e = sym r.0 ∙ told in
     let pack = c.pack.ensures in
-    let claim = claim_as (ap checked_answer told ∙ sym pack.1) r.1.1.1.1.0 in
-    (rw e pack.0, (rw e pack.1, (r.1.0, (r.1.1.0, (claim, children_claim claim)))))
+    (rw e pack.0, (rw e pack.1, (r.1.0, (r.1.1.0, claim_as (ap checked_answer told ∙ sym pack.1) r.1.1.1.1))))
 
 returns_2 : tie.Need-returns-2
 unfolding checked_answer
@@ -25,8 +24,7 @@ returns_2 c =
     let told = c.before.before.answer2.given.1 in
     let e = sym r.0 ∙ told in
     let pack = c.pack2.ensures in
-    let claim = claim_as (ap checked_answer told ∙ sym pack.1) r.1.1.1.1.0 in
-    (rw e pack.0, (rw e pack.1, (r.1.0, (r.1.1.0, (claim, children_claim claim)))))
+    (rw e pack.0, (rw e pack.1, (r.1.0, (r.1.1.0, claim_as (ap checked_answer told ∙ sym pack.1) r.1.1.1.1))))
 
 returns_3 : tie.Need-returns-3
 unfolding checked_answer
@@ -35,8 +33,7 @@ returns_3 c =
     let told = c.before.before.answer3.given.1 in
     let e = sym r.0 ∙ told in
     let pack = c.pack3.ensures in
-    let claim = claim_as (ap checked_answer told ∙ sym pack.1) r.1.1.1.1.0 in
-    (rw e pack.0, (rw e pack.1, (r.1.0, (r.1.1.0, (claim, children_claim claim)))))
+    (rw e pack.0, (rw e pack.1, (r.1.0, (r.1.1.0, claim_as (ap checked_answer told ∙ sym pack.1) r.1.1.1.1))))
 
 pub dockwrench_check_spec : {M : Type 1} → statement M
 dockwrench_check_spec =

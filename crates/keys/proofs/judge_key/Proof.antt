@@ -1,6 +1,6 @@
 -- The rules one after the other.
 use Rattle.fields.proofs.Laws.{device_any}
-use Rattle.key_types.proofs.Laws.{type_any}
+use Rattle.types.proofs.Laws.{type_any}
 use Rattle.findings.proofs.Laws.{found_as}
 use Rattle.book.specs.Book.{bkey}
 use Rattle.keys.proofs.Laws.{four_lent}

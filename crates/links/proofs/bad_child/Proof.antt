@@ -1,7 +1,7 @@
 -- By the parent of the child.
 use native.Mathlib.Omega.{arith}
 use Rattle.links.proofs.Words.{child_none, child_test}
-use Rattle.parents.proofs.Sources.{ready_source}
+use Rattle.links.proofs.Trees.{ready_source}
 use borrow.Author.Rules.{rules}
 use Rattle.links.proofs.bad_child.Statement.{statement}
 use Rattle.links.proofs.bad_child.Tie as tie

@@ -9,9 +9,7 @@ use Rattle.maps.proofs.Places.{Held}
 use Rattle.book.specs.Words.{holds, id_of}
 use Rattle.links.specs.SnapshotLinks.{tree_findings}
 use Rattle.links.specs.Steps.{tree_at}
-use Rattle.drawn.proofs.Scan.{held_head, held_key}
-use Rattle.parents.proofs.Sources.{ready_small}
-use Rattle.links.proofs.Trees.{last_tree}
+use Rattle.links.proofs.Trees.{ready_small, held_head, held_key, last_tree}
 use borrow.Author.Rules.{rules}
 use Rattle.links.proofs.show_pair.Statement.{statement}
 use Rattle.links.proofs.show_pair.Tie as tie

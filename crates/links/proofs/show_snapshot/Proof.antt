@@ -1,45 +1,31 @@
 -- By the test.
-use Prim.Native.Nat.{ℕ}
 use mathlib.Core.Path.{refl, ap, ◌∙◌}
 use native.Mathlib.Omega.{arith}
 use Rattle.findings.proofs.Laws.{added_only, added_not}
-use Rattle.pairs.specs.Pairs.{pairs_of}
-use Rattle.pairs.proofs.Order.{sorted_by}
 use Rattle.walk.proofs.Gather.{at_least}
-use Rattle.drawn.specs.Classes.{latest}
 use Rattle.drawn.proofs.Scan.{at_holds}
 use Rattle.parents.specs.Sources.{reach_of}
-use Rattle.parents.proofs.Sources.{ready_source}
+use Rattle.links.proofs.Trees.{ready_source}
 use borrow.Author.Rules.{rules}
 use Rattle.links.proofs.show_snapshot.Statement.{statement}
 use Rattle.links.proofs.show_snapshot.Tie as tie
 
-find_snapshot_requires : tie.Need-find-snapshot-requires
-find_snapshot_requires c κs =
-    let t = c.before.before.before.before.before.before.before.before.before.before.before.before.before.before.before.before.before in
-    (t.requires.0.0.room, sorted_by _ _ t.requires.0.0.pairs.all, omega arith, omega arith, t.requires.1.2)
-
 show_links_requires : tie.Need-show-links-requires
 show_links_requires c κs =
-    let key = c.before.before.before.find-snapshot.ensures in
-    let parent = c.before.before.before.before.key-word.ensures in
-    let k = c.before.before.before.before.before.before.before in
+    let k = c.before.before.before.before.before in
     let t = k.before.before.before.before.before.before.before.before.before.before.before.before.before.before in
     let next = k.line-beside.ensures in
-    let id = k.before.before.before.before.key-id.ensures in (
-      (t.requires.0.0, t.requires.0.1, at_least t.requires.0.1 9 22 40 k.before.before.before.before.before.if1.true, t.requires.0.2),
-      (next.0, next.1.0 ∙ id, key.0 ∙ ap (λ (i : ℕ). latest 3 i (pairs_of t.args.work.now t.args.n)) parent),
-    )
+    let id = k.before.before.before.before.key-id.ensures in
+    ((t.requires.0.0, t.requires.0.1, at_least t.requires.0.1 9 22 40 k.before.before.before.before.before.if1.true, t.requires.0.2), (next.0, next.1.0 ∙ id))
 
 returns : tie.Need-returns
 returns c =
     let shown = c.before.before.before.before.show-links.ensures in
-    let key = c.before.before.before.before.before.before.before.before.find-snapshot.ensures in
-    let k = c.before.before.before.before.before.before.before.before.before.before.before.before in
+    let k = c.before.before.before.before.before.before.before.before.before.before in
     let t = k.before.before.before.before.before.before.before.before.before.before.before.before.before.before in
     let next = k.line-beside.ensures in (
       added_only refl (at_holds t.requires.0.1 9 22 40 k.before.before.before.before.before.if1.true) shown.0,
-      (shown.1, (next.0, omega (arith, next.1.1, ap reach_of k.before.before.before.source_of.ensures), key.1)),
+      (shown.1, (next.0, omega (arith, next.1.1, ap reach_of k.before.before.before.source_of.ensures))),
     )
 
 returns_2 : tie.Need-returns-2
@@ -60,10 +46,6 @@ show_snapshot_spec =
     (λ c κs. search rules)
     (λ c κs. search rules)
     line_beside_requires
-    (λ c κs.
-    let t = c.before.before.before.before.before.before.before.before.before.before.before.before.before.before.before.before in
-    (t.requires.0.1, omega (arith, at_least t.requires.0.1 9 22 40 c.before.before.before.before.before.before.before.if1.true)))
-    find_snapshot_requires
     show_links_requires
     (λ c. search rules)
     (λ c. search rules)

@@ -2,9 +2,7 @@
 use mathlib.Core.Path.{sym, ◌∙◌}
 use native.Mathlib.Omega.{arith}
 use Rattle.pairs.proofs.Order.{sorted_by}
-use Rattle.drawn.proofs.Scan.{held_head, held_key}
-use Rattle.parents.proofs.Sources.{ready_small}
-use Rattle.links.proofs.Trees.{tree_held, root_found, root_absent}
+use Rattle.links.proofs.Trees.{ready_small, held_head, held_key, tree_held, root_found, root_absent}
 use borrow.Author.Rules.{rules}
 use Rattle.links.proofs.tree_root.Statement.{statement}
 use Rattle.links.proofs.tree_root.Tie as tie

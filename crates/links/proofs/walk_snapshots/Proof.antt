@@ -7,8 +7,9 @@ use Rattle.findings.specs.Findings.{only, each, sink}
 use Rattle.findings.proofs.Walk.{Begun, first, turn, last, each_none, begun_length, begun_counts}
 use Rattle.book.specs.Book.{keys_from, book_of}
 use Rattle.book.specs.KeyMaps.{parents_of}
-use Rattle.parents.specs.Sources.{reach_of, source_of}
-use Rattle.parents.proofs.Sources.{ready_source}
+use Rattle.parents.specs.Sources.{reach_of}
+use Rattle.links.specs.Steps.{source_of}
+use Rattle.links.proofs.Trees.{ready_source}
 use Rattle.book.specs.Walk.{KeysFit}
 use Rattle.book.proofs.Walk.{parts, step, no_keys}
 use Rattle.ancestors.specs.Lines.{Lined}
@@ -22,14 +23,14 @@ use Rattle.links.proofs.walk_snapshots.Statement.{statement}
 use Rattle.links.proofs.walk_snapshots.Tie as tie
 
 abbrev invariant_loop : tie.invariant-loop
-invariant_loop book h at work n hints₀ out₀ counts₀ ids₀ line₀ near₀ found₀ left₀ p₀ hints out counts ids line near found left p =
-    KeysFit book left p × (found + left * 8 ≤ left₀ * 8)
+invariant_loop book h at work n hints₀ out₀ counts₀ ids₀ line₀ found₀ left₀ p₀ hints out counts ids line found left p =
+    KeysFit book left p × (found + left * 6 ≤ left₀ * 6)
     × Begun (each (λ _ k. only (holds 9 22 40 k) (link_findings (book_of book) k)) 0 (keys_from book left₀ p₀)) (sink out₀ counts₀)
     (each (λ _ k. only (holds 9 22 40 k) (link_findings (book_of book) k)) 0 (keys_from book left p)) found (sink out counts)
-    × Lined (parents_of (book_of book)) ids line × (line.near ≤ reach_of (source_of h at n)) × (length hints ≡ length hints₀) × (near ≤ n)
+    × Lined (parents_of (book_of book)) ids line × (line.near ≤ reach_of (source_of h at n)) × (length hints ≡ length hints₀)
 
 abbrev decreases_loop : tie.decreases-loop
-decreases_loop book h at work n hints₀ out₀ counts₀ ids₀ line₀ near₀ found₀ left₀ p₀ hints out counts ids line near found left p = left
+decreases_loop book h at work n hints₀ out₀ counts₀ ids₀ line₀ found₀ left₀ p₀ hints out counts ids line found left p = left
 
 -- the key at hand, once its front is read
 key : (c : tie.After-key-front invariant_loop decreases_loop) → AtKey c.before.before.before.before.before.before.before.before.before.before.before.before.before.before.args.book.now c.before.before.loop.p c.key-front.result
@@ -45,7 +46,6 @@ loop_holds c =
       line.0,
       omega (arith, line.1.1, ap reach_of k.before.before.before.source_of.ensures),
       search rules,
-      omega arith,
     )
 
 show_snapshot_requires : tie.Need-show-snapshot-requires invariant_loop decreases_loop
@@ -53,7 +53,7 @@ show_snapshot_requires c κs =
     let k = c.before.before.before.before in
     let t = k.before.before.before.before.before.before.before.before.before.before.before.before.before.before in
     let l = k.before.before.loop in
-    ((t.requires, key k, omega (arith, l.invariant.1, t)), (l.invariant.3, l.invariant.4, l.invariant.6))
+    ((t.requires, key k, omega (arith, l.invariant.1, t)), (l.invariant.3, l.invariant.4))
 
 loop_again : tie.Need-loop-preserved invariant_loop decreases_loop
 loop_again c =
@@ -70,7 +70,6 @@ loop_again c =
       shown.1.1.0,
       shown.1.1.1,
       c.before.before.before.before.before.before.before.hints2.given ∙ l.invariant.5,
-      shown.1.1.2,
     )
 
 returns : tie.Need-returns invariant_loop decreases_loop

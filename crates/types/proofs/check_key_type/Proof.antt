@@ -1,10 +1,10 @@
 -- `types::check_key_type` meets its contract, by the test.
 use Rattle.findings.proofs.Laws.{begin}
-use Rattle.key_types.specs.CheckKeyType.{check_key_type}
+use Rattle.types.specs.CheckKeyType.{check_key_type}
 use borrow.Author.Rules.{rules}
 use native.Mathlib.Omega.{arith}
-use Rattle.key_types.proofs.check_key_type.Statement.{statement}
-use Rattle.key_types.proofs.check_key_type.Tie as tie
+use Rattle.types.proofs.check_key_type.Statement.{statement}
+use Rattle.types.proofs.check_key_type.Tie as tie
 
 returns : tie.Need-returns
 unfolding check_key_type

@@ -2,8 +2,8 @@
 ghost use Rattle.std.specs.Prelude.{◌≡◌, [], ◌<◌, ◌≤◌};
 ghost use Rattle.findings.specs.Findings.{sink, Found};
 ghost use Rattle.book.specs.Book.{bkey};
-ghost use Rattle.key_types.specs.CheckKeyType.{foreign_type, check_key_type};
-ghost use Rattle.key_types.specs.Steps.{in_mask, allowed_mask};
+ghost use Rattle.types.specs.CheckKeyType.{foreign_type, check_key_type};
+ghost use Rattle.types.specs.Steps.{in_mask, allowed_mask};
 
 use book::KeyHead;
 use book::names::{btree_id, key_type};

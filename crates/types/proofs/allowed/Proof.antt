@@ -1,11 +1,11 @@
 -- `types::allowed` meets its contract: each arm by computing, and the last beyond them all.
 use mathlib.Core.Path.{refl}
 use Rattle.book.specs.Maps.{lookup}
-use Rattle.key_types.specs.CheckKeyType.{key_types_allowed}
-use Rattle.key_types.specs.Steps.{in_mask, with_bit, mask_of, row_mask, allowed_mask}
-use Rattle.key_types.proofs.Masks.{Past, mask_is, mask_beyond}
-use Rattle.key_types.proofs.allowed.Statement.{statement}
-use Rattle.key_types.proofs.allowed.Tie as tie
+use Rattle.types.specs.CheckKeyType.{key_types_allowed}
+use Rattle.types.specs.Steps.{in_mask, with_bit, mask_of, row_mask, allowed_mask}
+use Rattle.types.proofs.Masks.{Past, mask_is, mask_beyond}
+use Rattle.types.proofs.allowed.Statement.{statement}
+use Rattle.types.proofs.allowed.Tie as tie
 
 pub allowed_spec : {M : Type 1} → statement M
 unfolding allowed_mask row_mask mask_of with_bit in_mask lookup key_types_allowed Past

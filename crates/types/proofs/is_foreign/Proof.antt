@@ -2,13 +2,13 @@
 use Prim.Native.Nat.{ℕ}
 use mathlib.Core.Path.{ap, ap₂, ◌∙◌}
 use mathlib.Core.Bool.{Bool, not, ◌&&◌}
-use Rattle.key_types.specs.CheckKeyType.{key_types_anywhere}
-use Rattle.key_types.specs.Steps.{in_mask, with_bit, mask_of}
-use Rattle.key_types.proofs.Masks.{masked, beyond_btrees, beyond_types}
+use Rattle.types.specs.CheckKeyType.{key_types_anywhere}
+use Rattle.types.specs.Steps.{in_mask, with_bit, mask_of}
+use Rattle.types.proofs.Masks.{masked, beyond_btrees, beyond_types}
 use borrow.Author.Rules.{rules}
 use native.Mathlib.Omega.{arith}
-use Rattle.key_types.proofs.is_foreign.Statement.{statement}
-use Rattle.key_types.proofs.is_foreign.Tie as tie
+use Rattle.types.proofs.is_foreign.Statement.{statement}
+use Rattle.types.proofs.is_foreign.Tie as tie
 
 returns : tie.Need-returns
 returns c = beyond_btrees _ _ c.if1.true

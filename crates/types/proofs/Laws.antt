@@ -9,7 +9,7 @@ use Rattle.book.specs.Names.{key_set}
 use Rattle.book.specs.Maps.{lookup}
 use Rattle.book.specs.Book.{bkey}
 use Rattle.book.specs.declared.KeyHead.{KeyHead}
-use Rattle.key_types.specs.CheckKeyType.{key_types_anywhere, key_types_allowed, outside, foreign_type, check_key_type}
+use Rattle.types.specs.CheckKeyType.{key_types_anywhere, key_types_allowed, outside, foreign_type, check_key_type}
 
 -- the rule does not go by the value
 pub type_any : (i : ℕ) (h : KeyHead) (v w : List ℕ) → check_key_type i (bkey h v) ≡ check_key_type i (bkey h w)

@@ -1,9 +1,9 @@
 -- `types::in_mask` meets its contract by computing.
 use mathlib.Core.Path.{refl}
-use Rattle.key_types.specs.Steps.{in_mask}
+use Rattle.types.specs.Steps.{in_mask}
 use borrow.Author.Rules.{rules}
-use Rattle.key_types.proofs.in_mask.Statement.{statement}
-use Rattle.key_types.proofs.in_mask.Tie as tie
+use Rattle.types.proofs.in_mask.Statement.{statement}
+use Rattle.types.proofs.in_mask.Tie as tie
 
 returns : tie.Need-returns
 unfolding in_mask

@@ -1,8 +1,8 @@
--- `parents::source_of` meets its contract: by the mark.
+-- `links::source_of` meets its contract: by the mark.
 use borrow.Author.Rules.{rules}
-use Rattle.parents.specs.Sources.{source_of}
-use Rattle.parents.proofs.source_of.Statement.{statement}
-use Rattle.parents.proofs.source_of.Tie as tie
+use Rattle.links.specs.Steps.{source_of}
+use Rattle.links.proofs.source_of.Statement.{statement}
+use Rattle.links.proofs.source_of.Tie as tie
 
 returns : tie.Need-returns
 unfolding source_of

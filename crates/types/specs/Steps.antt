@@ -2,7 +2,7 @@
 use Rattle.std.specs.Prelude.{ℕ, ◌+◌, ◌/◌, ◌%◌, ◌^◌, Bool, cond, List, [], ◌∷◌, eqb}
 use Rattle.std.proofs.Math.Option.{Option, none, some}
 use Rattle.book.specs.Maps.{lookup}
-use Rattle.key_types.specs.CheckKeyType.{key_types_allowed}
+use Rattle.types.specs.CheckKeyType.{key_types_allowed}
 
 -- whether the bit of a type is set in a mask
 unfoldable pub in_mask : ℕ → ℕ → Bool

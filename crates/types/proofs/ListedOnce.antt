@@ -10,8 +10,8 @@ use Rattle.pairs.specs.Counts.{count}
 use Rattle.pairs.specs.Pairs.{has}
 use Rattle.pairs.proofs.Order.{both_true, both_false, same_or_not}
 use Rattle.pairs.proofs.Bounds.{has_append}
-use Rattle.key_types.specs.CheckKeyType.{key_types_anywhere, key_types_allowed}
-use Rattle.key_types.specs.ListedOnce.{ListedOnce}
+use Rattle.types.specs.CheckKeyType.{key_types_anywhere, key_types_allowed}
+use Rattle.types.specs.ListedOnce.{ListedOnce}
 
 -- no number stands twice in a list
 none_twice : List ℕ → Bool

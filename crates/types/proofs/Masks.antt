@@ -10,8 +10,8 @@ use borrow.Author.Tests.{eq-eqb, ne_eqb, ltb-true}
 use Rattle.pairs.specs.Pairs.{has}
 use Rattle.pairs.proofs.Order.{both_true, same_or_not}
 use Rattle.book.specs.Maps.{lookup}
-use Rattle.key_types.specs.CheckKeyType.{key_types_anywhere, key_types_allowed, outside, foreign_type}
-use Rattle.key_types.specs.Steps.{in_mask, with_bit, mask_of, row_mask, allowed_mask}
+use Rattle.types.specs.CheckKeyType.{key_types_anywhere, key_types_allowed, outside, foreign_type}
+use Rattle.types.specs.Steps.{in_mask, with_bit, mask_of, row_mask, allowed_mask}
 
 -- ---- tests of all numbers below another
 
