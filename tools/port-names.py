@@ -32,6 +32,10 @@ CHOSEN = {
 }
 
 
+# Fields that are also names of variables, and a variable: these are turned wherever they stand in definitions and proofs.
+VARIABLES = {"keyType": "key_type", "rootOfParent": "root_of_parent"}
+
+
 def snake(name):
     out = re.sub(r"([a-z0-9])([A-Z])", lambda m: m[1] + "_" + m[2].lower(), name) if re.match(r"\+?[a-z]", name) else name
     return out.replace("-", "_").replace("\u2032", "'")
@@ -89,6 +93,19 @@ def declared(text):
 
 
 USE = re.compile(r"^(\s*(?:pub |ghost )*use )([^\s{};]+?)(?:\.\{([^}]*)\}| as (\S+?))?(;?)$")
+LONG_USE = re.compile(r"^([ \t]*(?:pub |ghost )*use [^\s{};]+\.\{)([^}]*)(\};?)$", re.M)
+
+
+def lines_of(path, text):
+    """The lines of a file, a `use` of several lines as one; and of source whether a line is of a clause."""
+    text = LONG_USE.sub(lambda m: m[1] + m[2].replace("\n", "\r") + m[3], text)
+    depth = 0
+    for line in text.split("\n"):
+        clause = depth > 0 or bool(re.match(r"\s*(requires|ensures|ghost)\b(?! use )", line))
+        if clause and path.endswith(".rt"):
+            code = re.sub(r"(^|\s)//.*", "", line)
+            depth += code.count("{") - code.count("}")
+        yield line, clause
 
 
 def main():
@@ -113,7 +130,7 @@ def main():
         if m:
             for n in own.get(m, ()):
                 scope[n] = None
-        for line in t.split("\n"):
+        for line, _ in lines_of(p, t):
             u = USE.match(line)
             if not u or u[3] is None:
                 continue
@@ -133,14 +150,14 @@ def main():
         # what would fall together
         back = {}
         words = set()
-        for line in t.split("\n"):
+        for line, clause in lines_of(p, t):
             code = line.split("--")[0] if p.endswith(".antt") else line.split("//")[0]
             if re.match(r"\s*(pub |ghost )*use ", code):
                 u = USE.match(line)
                 if u and u[3]:
                     words |= {w.split(" as ")[-1].strip() for w in u[3].split(",")}
                 continue
-            if p.endswith(".rt") and not re.match(r"\s*(requires|ensures|ghost)\b", code):
+            if p.endswith(".rt") and not clause:
                 # parameters and fields
                 words |= {w for w in re.findall(r"\b([a-z_0-9]+): ", code)}
                 continue
@@ -158,7 +175,7 @@ def main():
             if is_name(n) and snake(n) != n:
                 everywhere[n] = CHOSEN.get(n) or snake(n)
 
-    def turn_line(line, turned, p):
+    def turn_line(line, turned, p, clause):
         antt = p.endswith(".antt")
         mark = "--" if antt else "//"
         at = -1
@@ -185,10 +202,12 @@ def main():
                 return fields_map.get(w, w)
             if w in turned:
                 return turned[w]
+            if antt and w in VARIABLES:
+                return VARIABLES[w]
             if antt and w in fields_map and (re.match(r"\s+pub " + re.escape(w) + " :", code) or re.match(r"\s*[=:]\s", code[m.end():]) ):
                 return fields_map[w]
             return w
-        if antt or re.match(r"\s*(requires|ensures|ghost)\b", code) or p.endswith(".edit"):
+        if antt or clause:
             code = TOKEN.sub(word, code)
         note = re.sub(r"`([^`]+)`", lambda m: "`" + TOKEN.sub(lambda w: turned.get(w[0], everywhere.get(w[0], w[0])), m[1]) + "`", note)
         return code + note
@@ -210,13 +229,13 @@ def main():
                 else:
                     body = head[2]
                     if target and target.endswith(".rt"):
-                        turned = turn_line(body, scope, target) if re.match(r"\s*(requires|ensures|ghost)\b", body) else body
+                        turned = turn_line(body, scope, target, bool(re.match(r"\s*(requires|ensures|ghost)\b", body)))
                     else:
-                        turned = turn_line(body, scope, target or p)
+                        turned = turn_line(body, scope, target or p, True)
                     lines.append(f"{head[1]}: {turned}")
             new = "\n".join(lines)
         else:
-            new = "\n".join(turn_line(line, scopes[p], p) for line in t.split("\n"))
+            new = "\n".join(turn_line(line, scopes[p], p, clause) for line, clause in lines_of(p, t)).replace("\r", "\n")
         if new != t:
             n += 1
             if not check:

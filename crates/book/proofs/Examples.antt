@@ -100,7 +100,7 @@ what_it_holds = (refl, refl, refl, refl, refl, refl, refl, refl, refl)
 
 -- a key whose value has flags 2 and then these bytes
 snapshot : ℕ → ℕ → ℕ → List ℕ → Bkey
-snapshot btree keyType offset parent = record { btree = btree; key_type = keyType; size = 0; inode = 0; offset = offset; snapshot = 0; value = 2 ∷ 0 ∷ 0 ∷ 0 ∷ parent }
+snapshot btree key_type offset parent = record { btree = btree; key_type = key_type; size = 0; inode = 0; offset = offset; snapshot = 0; value = 2 ∷ 0 ∷ 0 ∷ 0 ∷ parent }
 
 -- 6 has no parent; of 4 the second key gives it, by the low half of its offset, and the others do not: one of 7 bytes, one of another type, one of
 -- another btree

@@ -124,7 +124,7 @@ bkey h value = record {
 
 -- a key of this btree and this type
 unfoldable pub is : ℕ → ℕ → Bkey → Bool
-is btree keyType k = eqb k.btree btree && eqb k.key_type keyType
+is btree key_type k = eqb k.btree btree && eqb k.key_type key_type
 
 -- the key whose value stands in the bytes s
 abbrev pub key_of : List ℕ → KeyHead → Bkey

@@ -9,7 +9,7 @@ word i k = le_at k.value i 4
 
 -- a key of a btree and a type with this many value bytes or more
 unfoldable pub holds : ℕ → ℕ → ℕ → Bkey → Bool
-holds btree keyType least k = is btree keyType k && leb least (length k.value)
+holds btree key_type least k = is btree key_type k && leb least (length k.value)
 
 -- "flags 0, parent 4, children 8 and 12, subvolume 16, tree 20, depth 24, skip 28, 32, 36"
 abbrev pub flags_word : Bkey → ℕ

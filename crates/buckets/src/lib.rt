@@ -4,40 +4,40 @@ ghost use Rattle.findings.specs.Findings.{sink, Found, Added, only, each};
 ghost use Rattle.pairs.specs.Pairs.{pairs_of};
 ghost use Rattle.book.specs.Maps.{lower_bound};
 ghost use Rattle.book.specs.Book.{
-  allocTable,
-  allocFrom,
+  alloc_table,
+  alloc_from,
   bkey,
   key_of,
-  bookOf,
+  book_of,
 };
 ghost use Rattle.book.specs.Walk.{Opened, Rising};
 ghost use Rattle.walk.specs.Keys.{key_at, AtKey, gather};
 ghost use Rattle.buckets.specs.FreeSpace.{
-  isRun,
-  runEnd,
+  is_run,
+  run_end,
   no_run,
-  heldRun,
-  setFindings,
-  allocRange,
-  usedBuckets,
-  runFindings,
+  held_run,
+  set_findings,
+  alloc_range,
+  used_buckets,
+  run_findings,
   gaps,
-  gapFindings,
-  freeSpace,
+  gap_findings,
+  free_space,
 };
 ghost use Rattle.buckets.specs.Steps.{
-  runPair,
+  run_pair,
   range_of,
-  inUseOf,
-  isFreeOf,
-  usedWith,
-  usedOf,
-  usedFrom,
+  in_use_of,
+  is_free_of,
+  used_with,
+  used_of,
+  used_from,
   Marked,
   Below,
-  entryFindings,
+  entry_findings,
   gap_of,
-  gapsFindings,
+  gaps_findings,
   Fair,
 };
 
@@ -78,7 +78,7 @@ const AGE_UNIT: u64 = 1 << 56;
 
 // Where the run with the head k ends: its offset without the age in its top byte.
 fn run_end(k: KeyHead) -> u64
-    ensures { result ≡ runEnd (bkey k []) }
+    ensures { result ≡ run_end (bkey k []) }
 {
     k.offset % AGE_UNIT
 }
@@ -94,7 +94,7 @@ fn no_run(h: Header, k: KeyHead) -> bool
 // Puts the start and the end of the run with the head k behind the first n pairs, if it is one of the device, and returns their number with it.
 fn put_run(h: Header, k: KeyHead, work: &mut [u64], n: usize) -> usize
     requires { 2 * n + 2 ≤ length work.old }
-    ensures put { pairs_of work.new result ≡ pairs_of work.old n ++ heldRun h (bkey k []) }
+    ensures put { pairs_of work.new result ≡ pairs_of work.old n ++ held_run h (bkey k []) }
     ensures few { result ≤ n + 1 }
 {
     if no_run(h, k) {
@@ -116,8 +116,8 @@ struct Range {
 
 // The entries of an alloc table for the buckets from `from` up to `to`, looked for from the place `near` on.
 fn find_range(book: &[u8], start: usize, count: usize, near: usize, from: u64, to: u64) -> Range
-    requires { Rising allocTable book.now start count × (length book.now ≤ 1048576) × (from ≤ to) × (near ≤ count) }
-    ensures { result ≡ range_of start (allocFrom book.now count start) from to }
+    requires { Rising alloc_table book.now start count × (length book.now ≤ 1048576) × (from ≤ to) × (near ≤ count) }
+    ensures { result ≡ range_of start (alloc_from book.now count start) from to }
 {
     let low = tables::alloc_near(book, start, count, near, from);
     let high = tables::alloc_near(book, start, count, low, to);
@@ -130,8 +130,8 @@ fn find_range(book: &[u8], start: usize, count: usize, near: usize, from: u64, t
 
 // The same, at once where the table has no entries: the compiler puts this test in place, and a run costs no search then.
 fn alloc_range(book: &[u8], start: usize, count: usize, near: usize, from: u64, to: u64) -> Range
-    requires { Rising allocTable book.now start count × (length book.now ≤ 1048576) × (from ≤ to) × (near ≤ count) }
-    ensures { result ≡ range_of start (allocFrom book.now count start) from to }
+    requires { Rising alloc_table book.now start count × (length book.now ≤ 1048576) × (from ≤ to) × (near ≤ count) }
+    ensures { result ≡ range_of start (alloc_from book.now count start) from to }
 {
     if count == 0 {
         return Range {
@@ -145,7 +145,7 @@ fn alloc_range(book: &[u8], start: usize, count: usize, near: usize, from: u64, 
 
 // Whether a data type says that its bucket is in use.
 fn in_use(t: MaybeU8) -> bool
-    ensures { result ≡ inUseOf t }
+    ensures { result ≡ in_use_of t }
 {
     match t {
         MaybeU8::Is(x) => x != 0,
@@ -155,7 +155,7 @@ fn in_use(t: MaybeU8) -> bool
 
 // Whether a data type says that its bucket is free.
 fn is_free(t: MaybeU8) -> bool
-    ensures { result ≡ isFreeOf t }
+    ensures { result ≡ is_free_of t }
 {
     match t {
         MaybeU8::Is(x) => x == 0,
@@ -173,7 +173,7 @@ struct Used {
 // Those of the entry e and the entries after it, which give u.
 fn with_entry(e: AllocEntry, u: Used) -> Used
     requires { u.count < 2 ^ 32 }
-    ensures used { result ≡ usedWith e u }
+    ensures used { result ≡ used_with e u }
     ensures few { result.count ≤ u.count + 1 }
 {
     let data_type = e.data_type;
@@ -189,7 +189,7 @@ fn with_entry(e: AllocEntry, u: Used) -> Used
 // Those of the `count` alloc entries from byte `start` on, where the first is `none` if there is none.
 fn used_among(book: &[u8], start: usize, count: usize, none: u64) -> Used
     requires { (length book.now ≤ 1048576) × (start + count * 10 ≤ length book.now) }
-    ensures used { result ≡ usedOf none (allocFrom book.now count start) }
+    ensures used { result ≡ used_of none (alloc_from book.now count start) }
     ensures few { result.count ≤ count }
 {
     let mut u = Used {
@@ -207,8 +207,8 @@ fn used_among(book: &[u8], start: usize, count: usize, none: u64) -> Used
 
 // Those of the entries from number `from` on of the `count` from byte `start` on, where those from number `to` on give u.
 fn used_down(book: &[u8], start: usize, count: usize, from: usize, to: usize, u: Used) -> Used
-    requires { (length book.now ≤ 1048576) × (start + count * 10 ≤ length book.now) × (from ≤ to) × (to ≤ count) × (u ≡ usedFrom book.now start count to) }
-    ensures { result ≡ usedFrom book.now start count from }
+    requires { (length book.now ≤ 1048576) × (start + count * 10 ≤ length book.now) × (from ≤ to) × (to ≤ count) × (u ≡ used_from book.now start count to) }
+    ensures { result ≡ used_from book.now start count from }
 {
     let mut used = u;
     let mut left = to;
@@ -249,7 +249,7 @@ fn put_marks(book: &[u8], start: usize, count: usize, marks: &mut [u64])
 // Those of the entries from number i on, from the next mark downwards.
 fn used_from(book: &[u8], start: usize, count: usize, marks: &[u64], i: usize) -> Used
     requires { (length book.now ≤ 1048576) × (start + count * 10 ≤ length book.now) × (count < 65536) × (514 ≤ length marks.now) × Marked book.now start count marks.now × (i ≤ count) }
-    ensures { result ≡ usedFrom book.now start count i }
+    ensures { result ≡ used_from book.now start count i }
 {
     let k = (i + 255) / 256;
     let at = 2 * k;
@@ -271,7 +271,7 @@ fn used_in(
     none: u64,
 ) -> Used
     requires { (length book.now ≤ 1048576) × (start + count * 10 ≤ length book.now) × (count < 65536) × Marked book.now start count marks.now × (low + n ≤ count) }
-    ensures used { result ≡ usedOf none (allocFrom book.now n (start + low * 10)) }
+    ensures used { result ≡ used_of none (alloc_from book.now n (start + low * 10)) }
     ensures few { result.count ≤ n }
 {
     if (n <= 512) | (marks.len() < 514) {
@@ -301,7 +301,7 @@ fn show_set(
     near: usize,
 ) -> Shown
     requires { Opened book.now h at × Marked book.now at.alloc h.alloc marks.now × (start ≤ end) × (n < 2 ^ 62) × (near ≤ h.alloc) }
-    ensures added { Added (sink out.old counts.old) n (setFindings h.first_bucket start (usedBuckets (allocRange start end (bookOf book.now).alloc))) result.found (sink out.new counts.new) }
+    ensures added { Added (sink out.old counts.old) n (set_findings h.first_bucket start (used_buckets (alloc_range start end (book_of book.now).alloc))) result.found (sink out.new counts.new) }
     ensures few { (result.found ≤ n + 1) × (result.near ≤ h.alloc) }
 {
     let count = h.alloc as usize;
@@ -338,7 +338,7 @@ fn show_run(
     near: usize,
 ) -> Shown
     requires { Opened book.now h at × Marked book.now at.alloc h.alloc marks.now × (n < 2 ^ 62) × (near ≤ h.alloc) }
-    ensures added { Added (sink out.old counts.old) n (runFindings (bookOf book.now) (key_of book.now k)) result.found (sink out.new counts.new) }
+    ensures added { Added (sink out.old counts.old) n (run_findings (book_of book.now) (key_of book.now k)) result.found (sink out.new counts.new) }
     ensures few { (result.found ≤ n + 1) × (result.near ≤ h.alloc) }
 {
     let end = run_end(k);
@@ -364,8 +364,8 @@ fn take_run(
     c: Counts,
 ) -> Counts
     requires { Opened book.now h at × Marked book.now at.alloc h.alloc marks.now × AtKey book.now p f × (c.found < 2 ^ 62) × (2 * c.put + 2 ≤ length work.old) × (c.near ≤ h.alloc) }
-    ensures added { Added (sink out.old counts.old) c.found (only (isRun (key_at book.now p)) (runFindings (bookOf book.now) (key_at book.now p))) result.found (sink out.new counts.new) }
-    ensures put { pairs_of work.new result.put ≡ pairs_of work.old c.put ++ runPair (bookOf book.now) p (key_at book.now p) }
+    ensures added { Added (sink out.old counts.old) c.found (only (is_run (key_at book.now p)) (run_findings (book_of book.now) (key_at book.now p))) result.found (sink out.new counts.new) }
+    ensures put { pairs_of work.new result.put ≡ pairs_of work.old c.put ++ run_pair (book_of book.now) p (key_at book.now p) }
     ensures few { (result.found ≤ c.found + 1) × (result.put ≤ c.put + 1) × (result.near ≤ h.alloc) }
 {
     if (f.btree == 11) & (f.key_type == 25) {
@@ -392,8 +392,8 @@ fn take_runs(
     work: &mut [u64],
 ) -> Counts
     requires { Opened book.now h at × Marked book.now at.alloc h.alloc marks.now × (2 * h.keys ≤ length work.old) }
-    ensures found { Found (sink out.old counts.old) (each (λ _ k. only (isRun k) (runFindings (bookOf book.now) k)) 0 (bookOf book.now).keys) result.found (sink out.new counts.new) }
-    ensures put { pairs_of work.new result.put ≡ gather (runPair (bookOf book.now)) book.now h.keys at.keys }
+    ensures found { Found (sink out.old counts.old) (each (λ _ k. only (is_run k) (run_findings (book_of book.now) k)) 0 (book_of book.now).keys) result.found (sink out.new counts.new) }
+    ensures put { pairs_of work.new result.put ≡ gather (run_pair (book_of book.now)) book.now h.keys at.keys }
     ensures few { (result.found ≤ h.keys) × (result.put ≤ h.keys) }
 {
     let mut c = Counts {
@@ -422,8 +422,8 @@ fn marked_runs(
     work: &mut [u64],
 ) -> Counts
     requires { Opened book.now h at × (2 * h.keys ≤ length work.old) }
-    ensures found { Found (sink out.old counts.old) (each (λ _ k. only (isRun k) (runFindings (bookOf book.now) k)) 0 (bookOf book.now).keys) result.found (sink out.new counts.new) }
-    ensures put { pairs_of work.new result.put ≡ gather (runPair (bookOf book.now)) book.now h.keys at.keys }
+    ensures found { Found (sink out.old counts.old) (each (λ _ k. only (is_run k) (run_findings (book_of book.now) k)) 0 (book_of book.now).keys) result.found (sink out.new counts.new) }
+    ensures put { pairs_of work.new result.put ≡ gather (run_pair (book_of book.now)) book.now h.keys at.keys }
     ensures few { (result.found ≤ h.keys) × (result.put ≤ h.keys) }
 {
     let mut marks = [0; 514];
@@ -441,8 +441,8 @@ fn all_runs(
     work: &mut [u64],
 ) -> Counts
     requires { Opened book.now h at × (2 * h.keys ≤ length work.old) }
-    ensures found { Found (sink out.old counts.old) (each (λ _ k. only (isRun k) (runFindings (bookOf book.now) k)) 0 (bookOf book.now).keys) result.found (sink out.new counts.new) }
-    ensures put { pairs_of work.new result.put ≡ gather (runPair (bookOf book.now)) book.now h.keys at.keys }
+    ensures found { Found (sink out.old counts.old) (each (λ _ k. only (is_run k) (run_findings (book_of book.now) k)) 0 (book_of book.now).keys) result.found (sink out.new counts.new) }
+    ensures put { pairs_of work.new result.put ≡ gather (run_pair (book_of book.now)) book.now h.keys at.keys }
     ensures few { (result.found ≤ h.keys) × (result.put ≤ h.keys) }
 {
     if h.alloc <= 512 {
@@ -455,7 +455,7 @@ fn all_runs(
 // What the alloc entry e gives in a gap of which the buckets up to `at` are passed, after n findings.
 fn show_entry(e: AllocEntry, at: u64, out: &mut [u8], counts: &mut [u64], n: usize) -> usize
     requires { n < 2 ^ 62 }
-    ensures added { Added (sink out.old counts.old) n (entryFindings at e) result (sink out.new counts.new) }
+    ensures added { Added (sink out.old counts.old) n (entry_findings at e) result (sink out.new counts.new) }
     ensures few { result ≤ n + 2 }
 {
     let data_type = e.data_type;
@@ -474,8 +474,8 @@ fn show_entries(
     out: &mut [u8],
     counts: &mut [u64],
 ) -> usize
-    requires { (length book.now ≤ 1048576) × (start + count * 10 ≤ length book.now) × Below to (allocFrom book.now count start) }
-    ensures found { Found (sink out.old counts.old) (gapFindings from (allocFrom book.now count start) to) result (sink out.new counts.new) }
+    requires { (length book.now ≤ 1048576) × (start + count * 10 ≤ length book.now) × Below to (alloc_from book.now count start) }
+    ensures found { Found (sink out.old counts.old) (gap_findings from (alloc_from book.now count start) to) result (sink out.new counts.new) }
     ensures few { result ≤ 1 + 2 * count }
 {
     let mut n: usize = 0;
@@ -505,8 +505,8 @@ fn show_hole(
     n: usize,
 ) -> Shown
     requires { Opened book.now h at × (n < 2 ^ 62) × (from < to) × (near ≤ h.alloc) }
-    ensures added { Added (sink out.old counts.old) n (gap_of (bookOf book.now).alloc from to) result.found (sink out.new counts.new) }
-    ensures few { (result.found ≤ n + 1 + 2 * (lower_bound to (bookOf book.now).alloc - lower_bound from (bookOf book.now).alloc)) × (result.near ≤ h.alloc) }
+    ensures added { Added (sink out.old counts.old) n (gap_of (book_of book.now).alloc from to) result.found (sink out.new counts.new) }
+    ensures few { (result.found ≤ n + 1 + 2 * (lower_bound to (book_of book.now).alloc - lower_bound from (book_of book.now).alloc)) × (result.near ≤ h.alloc) }
 {
     let range = alloc_range(book, at.alloc, h.alloc as usize, near, from, to);
     let rest = start_of(out.len(), n);
@@ -539,8 +539,8 @@ fn show_gap(
     n: usize,
 ) -> Shown
     requires { Opened book.now h at × (n < 2 ^ 62) × (near ≤ h.alloc) }
-    ensures added { Added (sink out.old counts.old) n (gap_of (bookOf book.now).alloc from to) result.found (sink out.new counts.new) }
-    ensures few { (result.found ≤ n + 1 + 2 * (lower_bound to (bookOf book.now).alloc - lower_bound from (bookOf book.now).alloc)) × (result.near ≤ h.alloc) }
+    ensures added { Added (sink out.old counts.old) n (gap_of (book_of book.now).alloc from to) result.found (sink out.new counts.new) }
+    ensures few { (result.found ≤ n + 1 + 2 * (lower_bound to (book_of book.now).alloc - lower_bound from (book_of book.now).alloc)) × (result.near ≤ h.alloc) }
 {
     if from < to {
         return show_hole(book, h, at, near, from, to, out, counts, n);
@@ -559,7 +559,7 @@ fn show_gaps(
     counts: &mut [u64],
 ) -> usize
     requires { Opened book.now h at × (n ≤ h.keys) × (2 * n ≤ length work.now) × Fair h.first_bucket (pairs_of work.now n) }
-    ensures found { Found (sink out.old counts.old) (gapsFindings (bookOf book.now).alloc (gaps h.first_bucket (pairs_of work.now n) h.buckets)) result (sink out.new counts.new) }
+    ensures found { Found (sink out.old counts.old) (gaps_findings (book_of book.now).alloc (gaps h.first_bucket (pairs_of work.now n) h.buckets)) result (sink out.new counts.new) }
     ensures few { result ≤ h.keys + 1 + 2 * h.alloc }
 {
     let mut s = Shown { found: 0, near: 0 };
@@ -587,7 +587,7 @@ pub fn free_space(
     work: &mut [u64],
 ) -> usize
     requires { Opened book.now h at × (2 * h.keys ≤ length work.old) }
-    ensures found { Found (sink out.old counts.old) (freeSpace (bookOf book.now)) result (sink out.new counts.new) }
+    ensures found { Found (sink out.old counts.old) (free_space (book_of book.now)) result (sink out.new counts.new) }
     ensures few { result ≤ 2 * h.keys + 1 + 2 * h.alloc }
 {
     let runs = all_runs(book, h, at, out, counts, work);

@@ -9,12 +9,12 @@ ghost use Rattle.walk.specs.Keys.{key_at, AtKey, gather};
 ghost use Rattle.maps.specs.Sorted.{AllPairs, last_at};
 ghost use Rattle.book.specs.Words.{word};
 ghost use Rattle.children.specs.SubvolumeChildren.{
-  hasFsParent,
-  fsParents,
-  isEntry,
-  missingEntry,
-  wrongEntry,
-  subvolumeChildren,
+  has_fs_parent,
+  fs_parents,
+  is_entry,
+  missing_entry,
+  wrong_entry,
+  subvolume_children,
 };
 ghost use Rattle.children.specs.Steps.{child_pair, wrong_word, any_wrong, AtChild, Known};
 
@@ -29,7 +29,7 @@ const SUBVOL_FS_PARENT: usize = 20;
 // Whether the key at byte p is a subvolume with a parent that is not deleted.
 fn has_fs_parent(book: &[u8], p: usize, f: KeyFront) -> bool
     requires { AtKey book.now p f }
-    ensures { result ≡ hasFsParent (key_at book.now p) }
+    ensures { result ≡ has_fs_parent (key_at book.now p) }
 {
     if ((f.btree == 8) & (f.key_type == 21)) & (24 <= f.len) {
         if f.len < 44 {
@@ -116,7 +116,7 @@ fn show_missing(
     m: usize,
 ) -> usize
     requires { Opened book.now h at × (2 * n ≤ length work.now) × (i < n) × AllPairs child_pair book.now h.keys at.keys (pairs_of work.now n) × (m < 2 ^ 62) }
-    ensures added { Added (sink out.old counts.old) m (only (last_at 0 (drop i (pairs_of work.now n))) (missingEntry (book_of book.now).keys (get_or work.now (2 * i) 0, word 20 (key_at book.now (get_or work.now (2 * i + 1) 0 % 2 ^ 32))))) result (sink out.new counts.new) }
+    ensures added { Added (sink out.old counts.old) m (only (last_at 0 (drop i (pairs_of work.now n))) (missing_entry (book_of book.now).keys (get_or work.now (2 * i) 0, word 20 (key_at book.now (get_or work.now (2 * i + 1) 0 % 2 ^ 32))))) result (sink out.new counts.new) }
     ensures few { result ≤ m + 1 }
 {
     if maps::is_last(work, n, i, 0) {
@@ -141,7 +141,7 @@ fn show_missings(
     counts: &mut [u64],
 ) -> usize
     requires { Opened book.now h at × (2 * n ≤ length work.now) × (n ≤ h.keys) × AllPairs child_pair book.now h.keys at.keys (pairs_of work.now n) }
-    ensures found { Found (sink out.old counts.old) (each (λ _ e. missingEntry (book_of book.now).keys e) 0 (fsParents (book_of book.now))) result (sink out.new counts.new) }
+    ensures found { Found (sink out.old counts.old) (each (λ _ e. missing_entry (book_of book.now).keys e) 0 (fs_parents (book_of book.now))) result (sink out.new counts.new) }
     ensures few { result ≤ n }
 {
     let mut found: usize = 0;
@@ -164,7 +164,7 @@ fn find_parent(
     child: u64,
 ) -> MaybeU32
     requires { Opened book.now h at × (2 * n ≤ length work.now) × (from ≤ n) × AllPairs child_pair book.now h.keys at.keys (pairs_of work.now n) }
-    ensures { result ≡ maybe_u32 (lookup child (fsParents (book_of book.now))) }
+    ensures { result ≡ maybe_u32 (lookup child (fs_parents (book_of book.now))) }
 {
     let found = maps::find_place_from(work, n, from, 0, child);
     match found {
@@ -187,7 +187,7 @@ fn show_wrong(
     m: usize,
 ) -> usize
     requires { Opened book.now h at × AtKey book.now p f × (2 * n ≤ length work.now) × AllPairs child_pair book.now h.keys at.keys (pairs_of work.now n) × (m < 2 ^ 62) }
-    ensures added { Added (sink out.old counts.old) m (only (isEntry (key_at book.now p)) (wrongEntry (key_at book.now p) (lookup (key_at book.now p).offset (fsParents (book_of book.now))))) result (sink out.new counts.new) }
+    ensures added { Added (sink out.old counts.old) m (only (is_entry (key_at book.now p)) (wrong_entry (key_at book.now p) (lookup (key_at book.now p).offset (fs_parents (book_of book.now))))) result (sink out.new counts.new) }
     ensures few { result ≤ m + 1 }
 {
     if (f.btree == 19) & (f.key_type == 25) {
@@ -223,7 +223,7 @@ fn show_wrongs(
     counts: &mut [u64],
 ) -> usize
     requires { Opened book.now h at × (2 * n ≤ length work.now) × AllPairs child_pair book.now h.keys at.keys (pairs_of work.now n) }
-    ensures found { Found (sink out.old counts.old) (each (λ _ k. only (isEntry k) (wrongEntry k (lookup k.offset (fsParents (book_of book.now))))) 0 (book_of book.now).keys) result (sink out.new counts.new) }
+    ensures found { Found (sink out.old counts.old) (each (λ _ k. only (is_entry k) (wrong_entry k (lookup k.offset (fs_parents (book_of book.now))))) 0 (book_of book.now).keys) result (sink out.new counts.new) }
     ensures few { result ≤ h.keys }
 {
     let mut found: usize = 0;
@@ -285,7 +285,7 @@ fn is_wrong(second: u64, parent: MaybeU32) -> bool
 // Whether some entry's child has another parent, or is not there, by the first n pairs, which are sorted: the pairs of a child stand together.
 fn has_wrong(book: &[u8], h: Header, at: Places, work: &[u64], n: usize) -> bool
     requires { Opened book.now h at × (2 * n ≤ length work.now) × AllPairs child_pair book.now h.keys at.keys (pairs_of work.now n) }
-    ensures { result ≡ any_wrong (fsParents (book_of book.now)) (pairs_of work.now n) }
+    ensures { result ≡ any_wrong (fs_parents (book_of book.now)) (pairs_of work.now n) }
 {
     let parent = find_parent(book, h, at, work, n, 0, 0);
     let mut child = Child { number: 0, parent };
@@ -313,7 +313,7 @@ fn show_children(
     counts: &mut [u64],
 ) -> usize
     requires { Opened book.now h at × (2 * n ≤ length work.now) × (n ≤ h.keys) × AllPairs child_pair book.now h.keys at.keys (pairs_of work.now n) }
-    ensures found { Found (sink out.old counts.old) (subvolumeChildren (book_of book.now)) result (sink out.new counts.new) }
+    ensures found { Found (sink out.old counts.old) (subvolume_children (book_of book.now)) result (sink out.new counts.new) }
     ensures few { result ≤ 2 * h.keys }
 {
     let missing = show_missings(book, h, at, work, n, out, counts);
@@ -334,7 +334,7 @@ pub fn subvolume_children(
     work: &mut [u64],
 ) -> usize
     requires { Opened book.now h at × (2 * h.keys ≤ length work.old) }
-    ensures found { Found (sink out.old counts.old) (subvolumeChildren (book_of book.now)) result (sink out.new counts.new) }
+    ensures found { Found (sink out.old counts.old) (subvolume_children (book_of book.now)) result (sink out.new counts.new) }
     ensures few { result ≤ 2 * h.keys }
 {
     let n = put_children(book, h, at, work);

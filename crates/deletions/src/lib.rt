@@ -9,12 +9,12 @@ ghost use Rattle.walk.specs.Keys.{key_at, AtKey, gather};
 ghost use Rattle.states.specs.StateDistance.{snap_no_keys, snap_deleted};
 ghost use Rattle.deletions.specs.SnapshotStates.{has_snap_state, snapshot_states};
 ghost use Rattle.deletions.specs.Steps.{
-  isLiveSubvolume,
-  isAccounted,
-  setPair,
-  willDelete,
+  is_live_subvolume,
+  is_accounted,
+  set_pair,
+  will_delete,
   deleting,
-  setFindings,
+  set_findings,
 };
 
 use book::{Header, KeyFront, Places};
@@ -24,7 +24,7 @@ use states::{SNAP_DELETED, SNAP_NO_KEYS, SNAP_STATE, SNAP_WILL_DELETE, SUBVOL_LI
 // Whether the key at byte p is a live subvolume.
 fn is_live_subvolume(book: &[u8], p: usize, f: KeyFront) -> bool
     requires { AtKey book.now p f }
-    ensures { result ≡ isLiveSubvolume (key_at book.now p) }
+    ensures { result ≡ is_live_subvolume (key_at book.now p) }
 {
     if ((f.btree == 8) & (f.key_type == 21)) & (44 <= f.len) {
         return walk::key_word(book, p, f, SUBVOL_STATE) == SUBVOL_LIVE;
@@ -35,7 +35,7 @@ fn is_live_subvolume(book: &[u8], p: usize, f: KeyFront) -> bool
 // Whether the key at byte p is an accounting key of a snapshot with keys counted.
 fn is_accounted(book: &[u8], p: usize, f: KeyFront) -> bool
     requires { AtKey book.now p f }
-    ensures { result ≡ isAccounted (key_at book.now p) }
+    ensures { result ≡ is_accounted (key_at book.now p) }
 {
     if ((f.btree == 20) & (f.key_type == 34)) & (8 <= f.len) {
         let inode = walk::key_inode(book, p, f);
@@ -58,7 +58,7 @@ fn accounted_id(inode: u64) -> u64
 // Puts the pair that the key at byte p gives behind the first n, and returns their number with it.
 fn put_set(book: &[u8], p: usize, f: KeyFront, work: &mut [u64], n: usize) -> usize
     requires { AtKey book.now p f × (2 * n + 2 ≤ length work.old) }
-    ensures put { pairs_of work.new result ≡ pairs_of work.old n ++ setPair p (key_at book.now p) }
+    ensures put { pairs_of work.new result ≡ pairs_of work.old n ++ set_pair p (key_at book.now p) }
     ensures few { result ≤ n + 1 }
 {
     if subvolumes::is_live_snapshot(book, p, f) {
@@ -79,7 +79,7 @@ fn put_set(book: &[u8], p: usize, f: KeyFront, work: &mut [u64], n: usize) -> us
 // Puts a pair for each live snapshot, live subvolume and accounted id, and returns their number.
 fn put_sets(book: &[u8], h: Header, at: Places, work: &mut [u64]) -> usize
     requires { Opened book.now h at × (2 * h.keys ≤ length work.old) }
-    ensures put { pairs_of work.new result ≡ gather setPair book.now h.keys at.keys }
+    ensures put { pairs_of work.new result ≡ gather set_pair book.now h.keys at.keys }
     ensures few { result ≤ h.keys }
 {
     let mut left = h.keys;
@@ -107,7 +107,7 @@ fn show_will_delete(
     m: usize,
 ) -> usize
     requires { (2 * n ≤ length work.now) × Sorted (pairs_of work.now n) × (m < 2 ^ 61) }
-    ensures added { Added (sink out.old counts.old) m (willDelete (pairs_of work.now n) subvolume left right offset) result (sink out.new counts.new) }
+    ensures added { Added (sink out.old counts.old) m (will_delete (pairs_of work.now n) subvolume left right offset) result (sink out.new counts.new) }
     ensures few { result ≤ m + 2 }
 {
     let live = pairs::has_pair(work, n, subvolume as u64, 1);
@@ -191,7 +191,7 @@ fn show_snapshot(
     m: usize,
 ) -> usize
     requires { AtKey book.now p f × (2 * n ≤ length work.now) × Sorted (pairs_of work.now n) × (m < 2 ^ 60) }
-    ensures added { Added (sink out.old counts.old) m (setFindings (pairs_of work.now n) (key_at book.now p)) result (sink out.new counts.new) }
+    ensures added { Added (sink out.old counts.old) m (set_findings (pairs_of work.now n) (key_at book.now p)) result (sink out.new counts.new) }
     ensures few { result ≤ m + 3 }
 {
     if is_judged(book, p, f) {
@@ -214,7 +214,7 @@ fn show_snapshots(
     counts: &mut [u64],
 ) -> usize
     requires { Opened book.now h at × (2 * n ≤ length work.now) × Sorted (pairs_of work.now n) }
-    ensures found { Found (sink out.old counts.old) (each (λ _ k. setFindings (pairs_of work.now n) k) 0 (book_of book.now).keys) result (sink out.new counts.new) }
+    ensures found { Found (sink out.old counts.old) (each (λ _ k. set_findings (pairs_of work.now n) k) 0 (book_of book.now).keys) result (sink out.new counts.new) }
     ensures few { result ≤ h.keys * 3 }
 {
     let mut found: usize = 0;

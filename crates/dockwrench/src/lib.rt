@@ -10,21 +10,21 @@ ghost use Rattle.parents.specs.Roots.{root_of};
 ghost use Rattle.subvolumes.specs.SubvolumeStates.{is_unavailable};
 ghost use Rattle.dockwrench.specs.Steps.{asked_source};
 ghost use Rattle.dockwrench.specs.Answers.{
-  countIn,
-  checkBook,
-  checkOf,
-  bookBuffer,
+  count_in,
+  check_book,
+  check_of,
+  book_buffer,
   zeros,
-  bookWork,
-  bufferAfter,
-  workAfter,
-  checkedAnswer,
-  ancestorBy,
-  ancestorOf,
-  availabilityBy,
-  availabilityOf,
-  ancestorAnswer,
-  availabilityAnswer,
+  book_work,
+  buffer_after,
+  work_after,
+  checked_answer,
+  ancestor_by,
+  ancestor_of,
+  availability_by,
+  availability_of,
+  ancestor_answer,
+  availability_answer,
   packed,
   unpacked,
 };
@@ -91,7 +91,7 @@ fn check_all(
 // The count of findings, and whether a buffer holds them all.
 fn count_in(room: usize, count: usize) -> Checked
     requires { count < 2 ^ 32 }
-    ensures { result ≡ countIn room count }
+    ensures { result ≡ count_in room count }
 {
     if room < 17 * count {
         return Checked::NoRoom(count);
@@ -102,11 +102,11 @@ fn count_in(room: usize, count: usize) -> Checked
 // The main call over an accepted book.
 fn check_book(book: &[u8], h: Header, at: Places, findings: &mut [u8], work: &mut [u64]) -> Checked
     requires { Opened book.now h at }
-    ensures answer { result ≡ checkBook (book_of book.now) (length findings.old) (length work.old) }
-    ensures buffer { findings.new ≡ bookBuffer (book_of book.now) (length work.old) findings.old }
-    ensures work { work.new ≡ bookWork (book_of book.now) work.old }
-    ensures few { (checkedAnswer result).count < 2 ^ 32 }
-    ensures claim { Claim book.now (checkedAnswer result) findings.new }
+    ensures answer { result ≡ check_book (book_of book.now) (length findings.old) (length work.old) }
+    ensures buffer { findings.new ≡ book_buffer (book_of book.now) (length work.old) findings.old }
+    ensures work { work.new ≡ book_work (book_of book.now) work.old }
+    ensures few { (checked_answer result).count < 2 ^ 32 }
+    ensures claim { Claim book.now (checked_answer result) findings.new }
 {
     if work.len() < 2 * (h.keys as usize) {
         return Checked::Refused(9, 0);
@@ -119,11 +119,11 @@ fn check_book(book: &[u8], h: Header, at: Places, findings: &mut [u8], work: &mu
 
 // The main call.
 pub fn check(book: &[u8], findings: &mut [u8], work: &mut [u64]) -> Checked
-    ensures answer { result ≡ checkOf (parse book.now) (length findings.old) (length work.old) }
-    ensures buffer { findings.new ≡ bufferAfter (parse book.now) (length work.old) findings.old }
-    ensures work { work.new ≡ workAfter (parse book.now) work.old }
-    ensures few { (checkedAnswer result).count < 2 ^ 32 }
-    ensures claim { Claim book.now (checkedAnswer result) findings.new }
+    ensures answer { result ≡ check_of (parse book.now) (length findings.old) (length work.old) }
+    ensures buffer { findings.new ≡ buffer_after (parse book.now) (length work.old) findings.old }
+    ensures work { work.new ≡ work_after (parse book.now) work.old }
+    ensures few { (checked_answer result).count < 2 ^ 32 }
+    ensures claim { Claim book.now (checked_answer result) findings.new }
 {
     let s = scan::scan(book);
     match s {
@@ -145,7 +145,7 @@ fn asked_source(h: Header, at: Places) -> Source
 // The root above an id, in an accepted book.
 fn root_above(book: &[u8], h: Header, at: Places, id: u32) -> Ancestor
     requires { Opened book.now h at }
-    ensures { result ≡ ancestorBy (root_of (parents_of (book_of book.now)) id) }
+    ensures { result ≡ ancestor_by (root_of (parents_of (book_of book.now)) id) }
 {
     let source = asked_source(h, at);
     let none = [0u64; 0];
@@ -158,7 +158,7 @@ fn root_above(book: &[u8], h: Header, at: Places, id: u32) -> Ancestor
 
 // The ancestor question.
 pub fn ask_ancestor(book: &[u8], id: u32) -> Ancestor
-    ensures { result ≡ ancestorOf (parse book.now) id }
+    ensures { result ≡ ancestor_of (parse book.now) id }
 {
     let s = scan::scan(book);
     match s {
@@ -170,7 +170,7 @@ pub fn ask_ancestor(book: &[u8], id: u32) -> Ancestor
 // Whether an id is in the set of unavailable subvolumes, in an accepted book.
 fn is_available(book: &[u8], h: Header, at: Places, id: u32) -> Availability
     requires { Opened book.now h at }
-    ensures { result ≡ availabilityBy (is_unavailable id (book_of book.now).keys) }
+    ensures { result ≡ availability_by (is_unavailable id (book_of book.now).keys) }
 {
     if subvolumes::is_unavailable(book, h, at, id) {
         return Availability::Unavailable;
@@ -180,7 +180,7 @@ fn is_available(book: &[u8], h: Header, at: Places, id: u32) -> Availability
 
 // The availability question.
 pub fn ask_available(book: &[u8], id: u32) -> Availability
-    ensures { result ≡ availabilityOf (parse book.now) id }
+    ensures { result ≡ availability_of (parse book.now) id }
 {
     let s = scan::scan(book);
     match s {
@@ -201,10 +201,10 @@ fn pack(number: usize, place: usize, count: usize) -> u64
 // The main call for C.
 #[unsafe(no_mangle)]
 pub extern "C" fn dockwrench_check(book: &[u8], findings: &mut [u8], work: &mut [u64]) -> u64
-    ensures answer { result ≡ packed (checkedAnswer (checkOf (parse book.now) (length findings.old) (length work.old))) }
-    ensures apart { unpacked result ≡ checkedAnswer (checkOf (parse book.now) (length findings.old) (length work.old)) }
-    ensures buffer { findings.new ≡ bufferAfter (parse book.now) (length work.old) findings.old }
-    ensures work { work.new ≡ workAfter (parse book.now) work.old }
+    ensures answer { result ≡ packed (checked_answer (check_of (parse book.now) (length findings.old) (length work.old))) }
+    ensures apart { unpacked result ≡ checked_answer (check_of (parse book.now) (length findings.old) (length work.old)) }
+    ensures buffer { findings.new ≡ buffer_after (parse book.now) (length work.old) findings.old }
+    ensures work { work.new ≡ work_after (parse book.now) work.old }
     ensures claim { Claim book.now (unpacked result) findings.new }
 {
     let answer = check(book, findings, work);
@@ -218,8 +218,8 @@ pub extern "C" fn dockwrench_check(book: &[u8], findings: &mut [u8], work: &mut 
 // The ancestor question for C.
 #[unsafe(no_mangle)]
 pub extern "C" fn dockwrench_ancestor(book: &[u8], id: u32) -> u64
-    ensures answer { result ≡ packed (ancestorAnswer (ancestorOf (parse book.now) id)) }
-    ensures apart { unpacked result ≡ ancestorAnswer (ancestorOf (parse book.now) id) }
+    ensures answer { result ≡ packed (ancestor_answer (ancestor_of (parse book.now) id)) }
+    ensures apart { unpacked result ≡ ancestor_answer (ancestor_of (parse book.now) id) }
 {
     let answer = ask_ancestor(book, id);
     match answer {
@@ -232,8 +232,8 @@ pub extern "C" fn dockwrench_ancestor(book: &[u8], id: u32) -> u64
 // The availability question for C.
 #[unsafe(no_mangle)]
 pub extern "C" fn dockwrench_unavailable(book: &[u8], id: u32) -> u64
-    ensures answer { result ≡ packed (availabilityAnswer (availabilityOf (parse book.now) id)) }
-    ensures apart { unpacked result ≡ availabilityAnswer (availabilityOf (parse book.now) id) }
+    ensures answer { result ≡ packed (availability_answer (availability_of (parse book.now) id)) }
+    ensures apart { unpacked result ≡ availability_answer (availability_of (parse book.now) id) }
 {
     let answer = ask_available(book, id);
     match answer {

@@ -9,7 +9,7 @@ use Rattle.book.specs.Book.{Bkey, is}
 unfoldable pub has_row : List ℕ → ℕ → ℕ → Bool
 has_row [] btree key_type = false
 has_row (b ∷ []) btree key_type = false
-has_row (b ∷ t ∷ rows) btree key_type = (eqb b btree && eqb t keyType) || has_row rows btree keyType
+has_row (b ∷ t ∷ rows) btree key_type = (eqb b btree && eqb t key_type) || has_row rows btree key_type
 
 -- SIZE_ZERO: the btrees and types whose keys have no size
 unfoldable pub size_zero : List ℕ

@@ -6,7 +6,7 @@ use Rattle.fields.specs.CheckKeyFields.{has_row, size_zero, snapshot_zero, minim
 
 -- a btree and a type as one number
 abbrev pub pair_of : ℕ → ℕ → ℕ
-pair_of btree key_type = btree * 256 + keyType
+pair_of btree key_type = btree * 256 + key_type
 
 -- a size on a key that has none
 unfoldable pub size_bad : Bkey → Bool

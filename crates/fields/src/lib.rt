@@ -6,27 +6,27 @@ ghost use Rattle.book.specs.Book.{bkey};
 ghost use Rattle.fields.specs.CheckKeyDevice.{elsewhere, check_key_device};
 ghost use Rattle.fields.specs.CheckKeyFields.{
   has_row,
-  minimumValue,
-  accountingPositionBytes,
-  replicasEnd,
-  accountingFields,
-  someNonzero,
-  someNotRising,
-  replicasEntryRefused,
-  countersBad,
-  checkAccountingKey,
-  checkInodeV3Word,
-  checkSnapshotPad,
-  backpointersStart,
-  allocV4Bytes,
-  checkAllocV4Value,
-  badId,
-  frontPadBad,
-  accountingJunk,
-  levelBad,
-  xattrShort,
-  checkPosition,
-  checkKeyFields,
+  minimum_value,
+  accounting_position_bytes,
+  replicas_end,
+  accounting_fields,
+  some_nonzero,
+  some_not_rising,
+  replicas_entry_refused,
+  counters_bad,
+  check_accounting_key,
+  check_inode_v3_word,
+  check_snapshot_pad,
+  backpointers_start,
+  alloc_v4_bytes,
+  check_alloc_v4_value,
+  bad_id,
+  front_pad_bad,
+  accounting_junk,
+  level_bad,
+  xattr_short,
+  check_position,
+  check_key_fields,
 };
 ghost use Rattle.fields.specs.Steps.{pair_of, size_bad, snapshot_bad, check_head, check_value, junk_at_end, PositionKind};
 
@@ -118,7 +118,7 @@ fn pair(h: KeyHead) -> u32
 
 // The least number of value bytes that a key must have.
 fn minimum_value(h: KeyHead) -> usize
-    ensures { result ≡ minimumValue (bkey h []) }
+    ensures { result ≡ minimum_value (bkey h []) }
 {
     let p = pair(h);
     match p {
@@ -149,7 +149,7 @@ fn check_head(
 
 // The position's bytes: inode, offset and snapshot, the most significant first.
 fn accounting_position_bytes(h: KeyHead) -> [u8; 20]
-    ensures { result ≡ accountingPositionBytes (bkey h []) }
+    ensures { result ≡ accounting_position_bytes (bkey h []) }
 {
     [
         ((h.inode >> 56) % 256) as u8,
@@ -177,7 +177,7 @@ fn accounting_position_bytes(h: KeyHead) -> [u8; 20]
 
 // Where the devices of a replicas entry end.
 fn replicas_end(bytes: &[u8; 20]) -> usize
-    ensures { (result ≡ replicasEnd bytes.now) × (4 ≤ result) × (result ≤ 20) }
+    ensures { (result ≡ replicas_end bytes.now) × (4 ≤ result) × (result ≤ 20) }
 {
     let devices = bytes[2];
     if devices < 16 {
@@ -188,7 +188,7 @@ fn replicas_end(bytes: &[u8; 20]) -> usize
 
 // How many bytes of the position the fields of the kind take.
 fn accounting_fields(kind: u64, bytes: &[u8; 20]) -> usize
-    ensures { (result ≡ accountingFields kind bytes.now) × (result ≤ 20) }
+    ensures { (result ≡ accounting_fields kind bytes.now) × (result ≤ 20) }
 {
     if kind == 0 {
         return 1;
@@ -201,7 +201,7 @@ fn accounting_fields(kind: u64, bytes: &[u8; 20]) -> usize
 
 // Whether some byte is not 0.
 fn some_nonzero(bytes: &[u8]) -> bool
-    ensures { result ≡ someNonzero bytes.now }
+    ensures { result ≡ some_nonzero bytes.now }
 {
     let mut i: usize = 0;
     while i < bytes.len() {
@@ -224,7 +224,7 @@ fn junk_at_end(kind: u64, bytes: &[u8; 20]) -> bool
 
 // Whether some number is not below the next.
 fn some_not_rising(devices: &[u8]) -> bool
-    ensures { result ≡ someNotRising devices.now }
+    ensures { result ≡ some_not_rising devices.now }
 {
     let mut i: usize = 0;
     while 1 < devices.len() - i {
@@ -238,7 +238,7 @@ fn some_not_rising(devices: &[u8]) -> bool
 
 // Whether a replicas entry is one that the reference refuses.
 fn replicas_entry_refused(bytes: &[u8; 20]) -> bool
-    ensures { result ≡ replicasEntryRefused bytes.now }
+    ensures { result ≡ replicas_entry_refused bytes.now }
 {
     let end = replicas_end(bytes);
     let devices = bytes[2];
@@ -270,7 +270,7 @@ fn over_three_counters(bytes: usize) -> bool
 
 // Whether a key of this kind may not have the counters that so many bytes hold: only dev_data_type (3) may have none.
 fn counters_bad(kind: u64, bytes: usize) -> bool
-    ensures { result ≡ countersBad kind (bytes / 8) }
+    ensures { result ≡ counters_bad kind (bytes / 8) }
 {
     over_three_counters(bytes) | (no_counter(bytes) & (kind != 3))
 }
@@ -285,7 +285,7 @@ fn check_accounting_key(
     n: usize,
 ) -> usize
     requires { n < 2 ^ 62 }
-    ensures added { Added (sink out.old counts.old) n (checkAccountingKey i (bkey h value.now)) result (sink out.new counts.new) }
+    ensures added { Added (sink out.old counts.old) n (check_accounting_key i (bkey h value.now)) result (sink out.new counts.new) }
     ensures few { result ≤ n + 3 }
 {
     let kind = h.inode >> 56;
@@ -309,7 +309,7 @@ fn check_inode_v3_word(
     n: usize,
 ) -> usize
     requires { n < 2 ^ 62 }
-    ensures added { Added (sink out.old counts.old) n (checkInodeV3Word i (bkey h value.now)) result (sink out.new counts.new) }
+    ensures added { Added (sink out.old counts.old) n (check_inode_v3_word i (bkey h value.now)) result (sink out.new counts.new) }
     ensures few { result ≤ n + 2 }
 {
     if value.len() < 48 {
@@ -333,7 +333,7 @@ fn check_snapshot_pad(
     n: usize,
 ) -> usize
     requires { n < 2 ^ 62 }
-    ensures added { Added (sink out.old counts.old) n (checkSnapshotPad i (bkey h value.now)) result (sink out.new counts.new) }
+    ensures added { Added (sink out.old counts.old) n (check_snapshot_pad i (bkey h value.now)) result (sink out.new counts.new) }
     ensures few { result ≤ n + 1 }
 {
     if value.len() < 64 {
@@ -344,7 +344,7 @@ fn check_snapshot_pad(
 
 // Where the backpointers of an alloc_v4 value start, in words of 8 bytes, by its start field.
 fn backpointers_start(field: u32) -> u32
-    ensures { (result ≡ backpointersStart field) × (result ≤ field + 6) }
+    ensures { (result ≡ backpointers_start field) × (result ≤ field + 6) }
 {
     if field == 0 {
         return 6;
@@ -354,7 +354,7 @@ fn backpointers_start(field: u32) -> u32
 
 // The bytes that an alloc_v4 value needs.
 fn alloc_v4_bytes(value: &[u8]) -> usize
-    ensures { result ≡ allocV4Bytes value.now }
+    ensures { result ≡ alloc_v4_bytes value.now }
 {
     if value.len() < 48 {
         return 48;
@@ -374,7 +374,7 @@ fn check_alloc_v4_value(
     n: usize,
 ) -> usize
     requires { n < 2 ^ 62 }
-    ensures added { Added (sink out.old counts.old) n (checkAllocV4Value i (bkey h value.now)) result (sink out.new counts.new) }
+    ensures added { Added (sink out.old counts.old) n (check_alloc_v4_value i (bkey h value.now)) result (sink out.new counts.new) }
     ensures few { result ≤ n + 1 }
 {
     findings::emit_if(
@@ -413,7 +413,7 @@ fn check_value(
 
 // Whether a key is not at `0:id` with a 32-bit id other than 0.
 fn bad_id(h: KeyHead) -> bool
-    ensures { result ≡ badId (bkey h []) }
+    ensures { result ≡ bad_id (bkey h []) }
 {
     (h.offset == 0) | ((4294967295 < h.offset) | (h.inode != 0))
 }
@@ -428,7 +428,7 @@ fn reflink_p_idx(value: &[u8]) -> u64
 
 // Whether the index of a reflink_p value is below its front_pad.
 fn front_pad_bad(value: &[u8]) -> bool
-    ensures { result ≡ frontPadBad value.now }
+    ensures { result ≡ front_pad_bad value.now }
 {
     if value.len() < 16 {
         return false;
@@ -438,7 +438,7 @@ fn front_pad_bad(value: &[u8]) -> bool
 
 // Whether an accounting key of kind btree or snapshot holds more than its fields.
 fn accounting_junk(h: KeyHead) -> bool
-    ensures { result ≡ accountingJunk (bkey h []) }
+    ensures { result ≡ accounting_junk (bkey h []) }
 {
     let kind = h.inode >> 56;
     let below = h.inode % 0x0001_0000_0000_0000;
@@ -448,7 +448,7 @@ fn accounting_junk(h: KeyHead) -> bool
 
 // Whether the level of a backpointer is above 4.
 fn level_bad(value: &[u8]) -> bool
-    ensures { result ≡ levelBad value.now }
+    ensures { result ≡ level_bad value.now }
 {
     if value.len() < 2 {
         return false;
@@ -458,7 +458,7 @@ fn level_bad(value: &[u8]) -> bool
 
 // Whether an xattr's name and value do not fit the key's value.
 fn xattr_short(value: &[u8]) -> bool
-    ensures { result ≡ xattrShort value.now }
+    ensures { result ≡ xattr_short value.now }
 {
     if value.len() < 4 {
         return false;
@@ -505,7 +505,7 @@ fn check_position(
     n: usize,
 ) -> usize
     requires { n < 2 ^ 62 }
-    ensures added { Added (sink out.old counts.old) n (checkPosition i (bkey h value.now)) result (sink out.new counts.new) }
+    ensures added { Added (sink out.old counts.old) n (check_position i (bkey h value.now)) result (sink out.new counts.new) }
     ensures few { result ≤ n + 1 }
 {
     let kind = position_kind(h, value);
@@ -520,7 +520,7 @@ pub fn check_key_fields(
     out: &mut [u8],
     counts: &mut [u64],
 ) -> usize
-    ensures found { Found (sink out.old counts.old) (checkKeyFields i (bkey h value.now)) result (sink out.new counts.new) }
+    ensures found { Found (sink out.old counts.old) (check_key_fields i (bkey h value.now)) result (sink out.new counts.new) }
     ensures few { result ≤ 7 }
 {
     let n = check_head(h, value, i, out, counts, 0);

@@ -84,13 +84,13 @@ mem_lookup {A} i v (e ∷ m) (Memᴰ.tail h) = go (eq_or_not i e.0) (mem_lookup 
     go (inr p) r = (r.0, lookup_past i e m p ∙ r.1)
 
 -- where the keys of a btree are well formed, they are those that hold any number of value bytes up to their least
-formed_holds : (btree keyType least n : ℕ) (k : Bkey) → n ≤ least → (eqb k.btree btree ≡ true → WellFormed keyType least k)
-    → holds btree keyType n k ≡ eqb k.btree btree
+formed_holds : (btree key_type least n : ℕ) (k : Bkey) → n ≤ least → (eqb k.btree btree ≡ true → WellFormed key_type least k)
+    → holds btree key_type n k ≡ eqb k.btree btree
 unfolding holds is
-formed_holds btree keyType least n k h formed = go (eqb k.btree btree) refl
+formed_holds btree key_type least n k h formed = go (eqb k.btree btree) refl
   where
-    go : (c : Bool) → eqb k.btree btree ≡ c → (c && eqb k.key_type keyType) && leb n (length k.value) ≡ c
-    go true e = let w = formed e in rw (eq-eqb k.key_type keyType w.typed, le-leb n (length k.value) (omega (arith, w.long)))
+    go : (c : Bool) → eqb k.btree btree ≡ c → (c && eqb k.key_type key_type) && leb n (length k.value) ≡ c
+    go true e = let w = formed e in rw (eq-eqb k.key_type key_type w.typed, le-leb n (length k.value) (omega (arith, w.long)))
     go false e = refl
 
 -- the words of a tree record

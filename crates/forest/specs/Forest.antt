@@ -22,8 +22,8 @@ records b = keys_of 15 b
 -- THE PREMISES
 
 -- a well-formed snapshot or tree key: its type, its least number of value bytes, and an offset from 1 to 4,294,967,295
-pub record WellFormed (keyType least : ℕ) (k : Bkey) : Type 0 where
-  pub typed : k.key_type ≡ keyType
+pub record WellFormed (key_type least : ℕ) (k : Bkey) : Type 0 where
+  pub typed : k.key_type ≡ key_type
   pub long : least ≤ length k.value
   pub above_zero : 1 ≤ k.offset
   pub fits : k.offset ≤ 4294967295

@@ -9,11 +9,11 @@ ghost use Rattle.gens.specs.BucketGensAgainstAlloc.{bucket_gens_against_alloc};
 ghost use Rattle.keys.specs.Present.{present_in};
 ghost use Rattle.rules.specs.Rules.{findings_of};
 ghost use Rattle.judge.specs.Steps.{
-  subvolumeRules,
-  snapshotRules,
-  firstRules,
-  lastRules,
-  acrossRules,
+  subvolume_rules,
+  snapshot_rules,
+  first_rules,
+  last_rules,
+  across_rules,
 };
 
 use book::{Header, Places};
@@ -31,7 +31,7 @@ fn judge_subvolumes(
     work: &mut [u64],
 ) -> usize
     requires { Opened book.now h at × (2 * h.keys ≤ length work.old) × (p ≡ present_in (book_of book.now).keys) }
-    ensures found { Found (sink out.old counts.old) (subvolumeRules (book_of book.now)) result (sink out.new counts.new) }
+    ensures found { Found (sink out.old counts.old) (subvolume_rules (book_of book.now)) result (sink out.new counts.new) }
     ensures few { result ≤ h.keys * 74900 }
 {
     if !p.subvolumes {
@@ -53,7 +53,7 @@ fn judge_snapshots(
     work: &mut [u64],
 ) -> usize
     requires { Opened book.now h at × (2 * h.keys ≤ length work.old) × (p ≡ present_in (book_of book.now).keys) }
-    ensures found { Found (sink out.old counts.old) (snapshotRules (book_of book.now)) result (sink out.new counts.new) }
+    ensures found { Found (sink out.old counts.old) (snapshot_rules (book_of book.now)) result (sink out.new counts.new) }
     ensures few { result ≤ h.keys * 4 }
 {
     if !p.snapshots {
@@ -135,7 +135,7 @@ fn judge_first(
     work: &mut [u64],
 ) -> usize
     requires { Opened book.now h at × (2 * h.keys ≤ length work.old) × (p ≡ present_in (book_of book.now).keys) }
-    ensures found { Found (sink out.old counts.old) (firstRules (book_of book.now)) result (sink out.new counts.new) }
+    ensures found { Found (sink out.old counts.old) (first_rules (book_of book.now)) result (sink out.new counts.new) }
     ensures few { result ≤ h.keys * 74906 }
 {
     let a = judge_subvolumes(book, h, at, p, out, counts, work);
@@ -156,7 +156,7 @@ fn judge_last(
     work: &mut [u64],
 ) -> usize
     requires { Opened book.now h at × (2 * h.keys ≤ length work.old) × (p ≡ present_in (book_of book.now).keys) }
-    ensures found { Found (sink out.old counts.old) (lastRules (book_of book.now)) result (sink out.new counts.new) }
+    ensures found { Found (sink out.old counts.old) (last_rules (book_of book.now)) result (sink out.new counts.new) }
     ensures few { result ≤ h.keys * 266 + 196608 }
 {
     let a = judge_links(book, h, at, p, out, counts, work);
@@ -177,7 +177,7 @@ fn judge_across(
     work: &mut [u64],
 ) -> usize
     requires { Opened book.now h at × (2 * h.keys ≤ length work.old) × (p ≡ present_in (book_of book.now).keys) }
-    ensures found { Found (sink out.old counts.old) (acrossRules (book_of book.now)) result (sink out.new counts.new) }
+    ensures found { Found (sink out.old counts.old) (across_rules (book_of book.now)) result (sink out.new counts.new) }
     ensures few { result ≤ h.keys * 75172 + 196608 }
 {
     let n = judge_first(book, h, at, p, out, counts, work);

@@ -12,21 +12,21 @@ ghost use Rattle.parents.specs.Sources.{reach_of};
 ghost use Rattle.ancestors.specs.Lines.{Lined};
 ghost use Rattle.book.specs.Words.{holds, subvolume_word, tree_word, skip_words, id_of};
 ghost use Rattle.links.specs.SnapshotLinks.{
-  treeMap,
-  treeOfMap,
-  isThe,
-  isOther,
-  masterFindings,
-  treeFindings,
-  wrongDepth,
-  badChild,
-  badSkip,
-  rootFindings,
-  backrefFindings,
-  childFindings,
-  skipFindings,
-  linkFindings,
-  snapshotLinks,
+  tree_map,
+  tree_of_map,
+  is_the,
+  is_other,
+  master_findings,
+  tree_findings,
+  wrong_depth,
+  bad_child,
+  bad_skip,
+  root_findings,
+  backref_findings,
+  child_findings,
+  skip_findings,
+  link_findings,
+  snapshot_links,
 };
 ghost use Rattle.links.specs.Steps.{word_in, root_in, root_named, same_root, tree_at, source_of, Ready};
 
@@ -45,7 +45,7 @@ struct Shown {
 
 // Whether a word is there and is x.
 fn is_the(word: MaybeU32, x: u32) -> bool
-    ensures { result ≡ isThe x (word_in word) }
+    ensures { result ≡ is_the x (word_in word) }
 {
     match word {
         MaybeU32::Is(y) => y == x,
@@ -55,7 +55,7 @@ fn is_the(word: MaybeU32, x: u32) -> bool
 
 // Whether a word is there and is not x.
 fn is_other(word: MaybeU32, x: u32) -> bool
-    ensures { result ≡ isOther x (word_in word) }
+    ensures { result ≡ is_other x (word_in word) }
 {
     match word {
         MaybeU32::Is(y) => y != x,
@@ -75,7 +75,7 @@ fn same_root(word: MaybeU32, root: Root) -> bool
 
 // Whether a root is there and the depth is not the number of links to it.
 fn wrong_depth(depth: u32, root: Root) -> bool
-    ensures { result ≡ wrongDepth depth (root_in root) }
+    ensures { result ≡ wrong_depth depth (root_in root) }
 {
     match root {
         Root::At { root: _, links } => depth != links,
@@ -114,7 +114,7 @@ fn bad_child(
     child: u32,
 ) -> bool
     requires { Ready book.now h at work.now n }
-    ensures { result ≡ badChild (parents_of (book_of book.now)) id child }
+    ensures { result ≡ bad_child (parents_of (book_of book.now)) id child }
 {
     if child == 0 {
         return false;
@@ -129,7 +129,7 @@ fn bad_child(
 // Whether a subvolume is there that has another snapshot than this one.
 fn bad_backref(book: &[u8], h: Header, at: Places, id: u32, subvolume: u32) -> bool
     requires { Opened book.now h at }
-    ensures { result ≡ not (eqb subvolume 0) && isOther id (lookup subvolume (book_of book.now).subvolumes) }
+    ensures { result ≡ not (eqb subvolume 0) && is_other id (lookup subvolume (book_of book.now).subvolumes) }
 {
     if subvolume == 0 {
         return false;
@@ -151,7 +151,7 @@ fn count_skip(id: u32, skip: u32, above: bool) -> u64
 // How many of the three skip words of the snapshot at byte p are bad.
 fn count_skips(book: &[u8], p: usize, f: KeyFront, ids: &[u32; 1024], len: usize, id: u32) -> u64
     requires { AtKey book.now p f × (40 ≤ f.len) × (len ≤ 1024) × (length ids.now ≡ 1024) }
-    ensures { result ≡ length (keep (badSkip id (take len ids.now)) (skip_words (key_at book.now p))) }
+    ensures { result ≡ length (keep (bad_skip id (take len ids.now)) (skip_words (key_at book.now p))) }
 {
     let a = walk::key_word(book, p, f, 28);
     let b = walk::key_word(book, p, f, 32);
@@ -176,7 +176,7 @@ fn show_backref(
     m: usize,
 ) -> usize
     requires { Opened book.now h at × AtKey book.now p f × (40 ≤ f.len) × (m < 2 ^ 62) }
-    ensures added { Added (sink out.old counts.old) m (backrefFindings (key_at book.now p) id (lookup (subvolume_word (key_at book.now p)) (book_of book.now).subvolumes)) result (sink out.new counts.new) }
+    ensures added { Added (sink out.old counts.old) m (backref_findings (key_at book.now p) id (lookup (subvolume_word (key_at book.now p)) (book_of book.now).subvolumes)) result (sink out.new counts.new) }
     ensures few { result ≤ m + 1 }
 {
     let subvolume = walk::key_word(book, p, f, 16);
@@ -199,7 +199,7 @@ fn show_children(
     m: usize,
 ) -> usize
     requires { Ready book.now h at work.now n × AtKey book.now p f × (40 ≤ f.len) × (m < 2 ^ 62) }
-    ensures added { Added (sink out.old counts.old) m (childFindings (key_at book.now p) id (parents_of (book_of book.now))) result (sink out.new counts.new) }
+    ensures added { Added (sink out.old counts.old) m (child_findings (key_at book.now p) id (parents_of (book_of book.now))) result (sink out.new counts.new) }
     ensures few { result ≤ m + 2 }
 {
     let left = walk::key_word(book, p, f, 8);
@@ -223,7 +223,7 @@ fn show_skips(
     m: usize,
 ) -> usize
     requires { AtKey book.now p f × (40 ≤ f.len) × (len ≤ 1024) × (length ids.now ≡ 1024) × (m < 2 ^ 62) }
-    ensures added { Added (sink out.old counts.old) m (skipFindings (key_at book.now p) id (take len ids.now)) result (sink out.new counts.new) }
+    ensures added { Added (sink out.old counts.old) m (skip_findings (key_at book.now p) id (take len ids.now)) result (sink out.new counts.new) }
     ensures few { result ≤ m + 1 }
 {
     let bad = count_skips(book, p, f, ids, len, id);
@@ -233,7 +233,7 @@ fn show_skips(
 // The root that the tree record of an id names: the last record of the id, by the first n pairs.
 fn tree_root(book: &[u8], h: Header, at: Places, work: &[u64], n: usize, id: u32) -> MaybeU32
     requires { Ready book.now h at work.now n }
-    ensures { result ≡ maybe_u32 (root_named (lookup id (treeMap (book_of book.now)))) }
+    ensures { result ≡ maybe_u32 (root_named (lookup id (tree_map (book_of book.now)))) }
 {
     match maps::find_place(work, n, 0, id as u64) {
         MaybeU64::Is(q) => {
@@ -248,7 +248,7 @@ fn tree_root(book: &[u8], h: Header, at: Places, work: &[u64], n: usize, id: u32
 // The tree that the snapshot of an id names: the last snapshot of the id, by the first n pairs.
 fn tree_of(book: &[u8], h: Header, at: Places, work: &[u64], n: usize, id: u32) -> MaybeU32
     requires { Ready book.now h at work.now n }
-    ensures { result ≡ maybe_u32 (lookup id (treeOfMap (book_of book.now))) }
+    ensures { result ≡ maybe_u32 (lookup id (tree_of_map (book_of book.now))) }
 {
     let found = drawn::find_snapshot(work, n, n, 2, id);
     let place = found.place;
@@ -278,7 +278,7 @@ fn show_root(
     m: usize,
 ) -> usize
     requires { Ready book.now h at work.now n × AtKey book.now p f × (40 ≤ f.len) × (m < 2 ^ 62) }
-    ensures added { Added (sink out.old counts.old) m (rootFindings (key_at book.now p) id (lookup (tree_word (key_at book.now p)) (treeMap (book_of book.now))) (root_in root)) result (sink out.new counts.new) }
+    ensures added { Added (sink out.old counts.old) m (root_findings (key_at book.now p) id (lookup (tree_word (key_at book.now p)) (tree_map (book_of book.now))) (root_in root)) result (sink out.new counts.new) }
     ensures few { result ≤ m + 2 }
 {
     let tree = walk::key_word(book, p, f, 20);
@@ -306,7 +306,7 @@ fn show_links(
 ) -> usize
     requires ready { Ready book.now h at work.now n × AtKey book.now p f × (40 ≤ f.len) × (m < 2 ^ 61) }
     requires lined { Lined (parents_of (book_of book.now)) ids.now line × (line.id ≡ id_of (key_at book.now p)) }
-    ensures added { Added (sink out.old counts.old) m (linkFindings (book_of book.now) (key_at book.now p)) result (sink out.new counts.new) }
+    ensures added { Added (sink out.old counts.old) m (link_findings (book_of book.now) (key_at book.now p)) result (sink out.new counts.new) }
     ensures few { result ≤ m + 6 }
 {
     let id = line.id;
@@ -335,7 +335,7 @@ fn show_snapshot(
 ) -> Shown
     requires ready { Ready book.now h at work.now n × AtKey book.now p f × (m < 2 ^ 61) }
     requires lined_2 { Lined (parents_of (book_of book.now)) ids.old line × (line.near ≤ reach_of (source_of h at n)) }
-    ensures added { Added (sink out.old counts.old) m (only (holds 9 22 40 (key_at book.now p)) (linkFindings (book_of book.now) (key_at book.now p))) result.found (sink out.new counts.new) }
+    ensures added { Added (sink out.old counts.old) m (only (holds 9 22 40 (key_at book.now p)) (link_findings (book_of book.now) (key_at book.now p))) result.found (sink out.new counts.new) }
     ensures few { result.found ≤ m + 6 }
     ensures lined { Lined (parents_of (book_of book.now)) ids.new result.line × (result.line.near ≤ reach_of (source_of h at n)) }
 {
@@ -361,7 +361,7 @@ fn walk_snapshots(
     counts: &mut [u64],
 ) -> usize
     requires { Ready book.now h at work.now n }
-    ensures found { Found (sink out.old counts.old) (each (λ _ k. only (holds 9 22 40 k) (linkFindings (book_of book.now) k)) 0 (book_of book.now).keys) result (sink out.new counts.new) }
+    ensures found { Found (sink out.old counts.old) (each (λ _ k. only (holds 9 22 40 k) (link_findings (book_of book.now) k)) 0 (book_of book.now).keys) result (sink out.new counts.new) }
     ensures few { result ≤ h.keys * 6 }
 {
     let mut ids = [0u32; 1024];
@@ -394,7 +394,7 @@ fn walk_with_hints(
     counts: &mut [u64],
 ) -> usize
     requires { Ready book.now h at work.now n }
-    ensures found { Found (sink out.old counts.old) (each (λ _ k. only (holds 9 22 40 k) (linkFindings (book_of book.now) k)) 0 (book_of book.now).keys) result (sink out.new counts.new) }
+    ensures found { Found (sink out.old counts.old) (each (λ _ k. only (holds 9 22 40 k) (link_findings (book_of book.now) k)) 0 (book_of book.now).keys) result (sink out.new counts.new) }
     ensures few { result ≤ h.keys * 6 }
 {
     let mut hints = [0u16; 4096];
@@ -415,7 +415,7 @@ fn show_snapshots(
     counts: &mut [u64],
 ) -> usize
     requires { Ready book.now h at work.now n }
-    ensures found { Found (sink out.old counts.old) (each (λ _ k. only (holds 9 22 40 k) (linkFindings (book_of book.now) k)) 0 (book_of book.now).keys) result (sink out.new counts.new) }
+    ensures found { Found (sink out.old counts.old) (each (λ _ k. only (holds 9 22 40 k) (link_findings (book_of book.now) k)) 0 (book_of book.now).keys) result (sink out.new counts.new) }
     ensures few { result ≤ h.keys * 6 }
 {
     if h.parents < FEW_PARENTS {
@@ -439,7 +439,7 @@ fn show_master(
     m: usize,
 ) -> usize
     requires { Ready book.now h at work.now n × (m < 2 ^ 62) }
-    ensures added { Added (sink out.old counts.old) m (masterFindings (treeOfMap (book_of book.now)) id subvolume (lookup subvolume (book_of book.now).subvolumes)) result (sink out.new counts.new) }
+    ensures added { Added (sink out.old counts.old) m (master_findings (tree_of_map (book_of book.now)) id subvolume (lookup subvolume (book_of book.now).subvolumes)) result (sink out.new counts.new) }
     ensures few { result ≤ m + 1 }
 {
     match snapshot_of(book, h, at, subvolume) {
@@ -465,7 +465,7 @@ fn show_tree(
     m: usize,
 ) -> usize
     requires { Ready book.now h at work.now n × AtKey book.now p f × (8 ≤ f.len) × (m < 2 ^ 61) }
-    ensures added { Added (sink out.old counts.old) m (treeFindings (book_of book.now) (tree_at book.now (id_of (key_at book.now p), p))) result (sink out.new counts.new) }
+    ensures added { Added (sink out.old counts.old) m (tree_findings (book_of book.now) (tree_at book.now (id_of (key_at book.now p), p))) result (sink out.new counts.new) }
     ensures few { result ≤ m + 2 }
 {
     let id = drawn::key_id(book, p, f);
@@ -489,7 +489,7 @@ fn show_pair(
     m: usize,
 ) -> usize
     requires { Ready book.now h at work.now n × (i < n) × (m < 2 ^ 61) }
-    ensures added { Added (sink out.old counts.old) m (only (last_at 0 (drop i (pairs_of work.now n))) (treeFindings (book_of book.now) (tree_at book.now (get_or work.now (2 * i) 0, get_or work.now (2 * i + 1) 0 % 2 ^ 32)))) result (sink out.new counts.new) }
+    ensures added { Added (sink out.old counts.old) m (only (last_at 0 (drop i (pairs_of work.now n))) (tree_findings (book_of book.now) (tree_at book.now (get_or work.now (2 * i) 0, get_or work.now (2 * i + 1) 0 % 2 ^ 32)))) result (sink out.new counts.new) }
     ensures few { result ≤ m + 2 }
 {
     if maps::is_last(work, n, i, 0) {
@@ -512,7 +512,7 @@ fn show_trees(
     counts: &mut [u64],
 ) -> usize
     requires { Ready book.now h at work.now n }
-    ensures found { Found (sink out.old counts.old) (each (λ _ e. treeFindings (book_of book.now) e) 0 (treeMap (book_of book.now))) result (sink out.new counts.new) }
+    ensures found { Found (sink out.old counts.old) (each (λ _ e. tree_findings (book_of book.now) e) 0 (tree_map (book_of book.now))) result (sink out.new counts.new) }
     ensures few { result ≤ n * 2 }
 {
     let mut found: usize = 0;
@@ -535,7 +535,7 @@ fn show_all(
     counts: &mut [u64],
 ) -> usize
     requires { Ready book.now h at work.now n }
-    ensures found { Found (sink out.old counts.old) (each (λ _ e. treeFindings (book_of book.now) e) 0 (treeMap (book_of book.now)) ++ each (λ _ k. only (holds 9 22 40 k) (linkFindings (book_of book.now) k)) 0 (book_of book.now).keys) result (sink out.new counts.new) }
+    ensures found { Found (sink out.old counts.old) (each (λ _ e. tree_findings (book_of book.now) e) 0 (tree_map (book_of book.now)) ++ each (λ _ k. only (holds 9 22 40 k) (link_findings (book_of book.now) k)) 0 (book_of book.now).keys) result (sink out.new counts.new) }
     ensures few { result ≤ h.keys * 8 }
 {
     let trees = show_trees(book, h, at, work, n, out, counts);
@@ -553,7 +553,7 @@ pub fn snapshot_links(
     work: &mut [u64],
 ) -> usize
     requires { Opened book.now h at × (2 * h.keys ≤ length work.old) }
-    ensures found { Found (sink out.old counts.old) (snapshotLinks (book_of book.now)) result (sink out.new counts.new) }
+    ensures found { Found (sink out.old counts.old) (snapshot_links (book_of book.now)) result (sink out.new counts.new) }
     ensures few { result ≤ h.keys * 8 }
 {
     if !h.trees {

@@ -11,9 +11,9 @@ one_more (some r) = some (r.0, suc r.1)
 
 -- the root of `at` and the links to it, by what the parents have for `at` and by the root of its parent
 unfoldable pub root_via : ℕ → (ℕ → Option (ℕ × ℕ)) → Option ℕ → Option (ℕ × ℕ)
-root_via at rootOfParent none = none
-root_via at rootOfParent (some zero) = some (at, 0)
-root_via at rootOfParent (some (suc p)) = one_more (rootOfParent (suc p))
+root_via at root_of_parent none = none
+root_via at root_of_parent (some zero) = some (at, 0)
+root_via at root_of_parent (some (suc p)) = one_more (root_of_parent (suc p))
 
 -- the first id whose parent is 0 that a number of links from 0 to `most` leads to, through present ids; and that number
 unfoldable pub root_within : List (ℕ × ℕ) → ℕ → ℕ → Option (ℕ × ℕ)

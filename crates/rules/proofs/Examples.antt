@@ -38,7 +38,7 @@ abbrev word : ℕ → List ℕ → List ℕ
 word n rest = n ∷ 0 ∷ 0 ∷ 0 ∷ rest
 
 abbrev key : ℕ → ℕ → ℕ → List ℕ → Bkey
-key btree keyType offset value = record { btree = btree; key_type = keyType; size = 0; inode = 0; offset = offset; snapshot = 0; value = value }
+key btree key_type offset value = record { btree = btree; key_type = key_type; size = 0; inode = 0; offset = offset; snapshot = 0; value = value }
 
 -- a snapshot by its id, parent, first child, tree, depth and first skip word
 abbrev snapshot : ℕ → ℕ → ℕ → ℕ → ℕ → ℕ → Bkey

@@ -32,7 +32,7 @@ abbrev zeros : ℕ → List ℕ
 zeros n = replicate n 0
 
 abbrev key : ℕ → ℕ → ℕ → ℕ → List ℕ → Bkey
-key btree keyType inode offset value = record { btree = btree; key_type = keyType; size = 0; inode = inode; offset = offset; snapshot = 0; value = value }
+key btree key_type inode offset value = record { btree = btree; key_type = key_type; size = 0; inode = inode; offset = offset; snapshot = 0; value = value }
 
 -- a 32-bit word in bytes, little-endian
 unfoldable pub word : ℕ → List ℕ

@@ -3,16 +3,16 @@
 ghost use Rattle.std.specs.Prelude.{◌≡◌, true, ◌+◌, ◌*◌, ◌^◌, ◌<◌, ◌≤◌, length};
 ghost use Rattle.book.specs.Book.{header_of, words_table, entry_at, places_of, key_head};
 ghost use Rattle.book.specs.Refusals.{
-  badRest,
-  entryVerdict,
-  tableVerdict,
-  keyVerdict,
-  keysVerdict,
-  partsVerdict,
-  headerVerdict,
+  bad_rest,
+  entry_verdict,
+  table_verdict,
+  key_verdict,
+  keys_verdict,
+  parts_verdict,
+  header_verdict,
   ◌then◌,
   parse,
-  scanOf,
+  scan_of,
 };
 ghost use Rattle.book.specs.Walk.{Readable, front_of};
 ghost use Rattle.scan.specs.Steps.{FirstBefore, Near, entry_read_of, key_read_of, passes, words_rise, start_of, counts_of};
@@ -179,7 +179,7 @@ fn read_first(book: &[u8], t: Table, at: usize) -> u64
 
 // Whether the rest of an alloc entry has a spare bit set, or a data type without has-type.
 fn bad_rest(rest: u64) -> bool
-    ensures { result ≡ badRest true rest }
+    ensures { result ≡ bad_rest true rest }
 {
     (rest % 128 != 0) | ((rest / 32768 == 0) & (rest / 128 % 256 != 0))
 }
@@ -187,7 +187,7 @@ fn bad_rest(rest: u64) -> bool
 // Whether the rest of the entry at byte `at` is one that its table may not hold: only an alloc table has such.
 fn bad_entry(book: &[u8], t: Table, at: usize) -> bool
     requires { Readable t × (length book.now ≤ 1048576) × (at + t.size ≤ length book.now) }
-    ensures { result ≡ badRest t.typed (entry_at t book.now at).rest }
+    ensures { result ≡ bad_rest t.typed (entry_at t book.now at).rest }
 {
     if !t.typed {
         return false;
@@ -202,7 +202,7 @@ fn bad_entry(book: &[u8], t: Table, at: usize) -> bool
 fn check_entry(book: &[u8], t: Table, start: usize, at: usize, previous: u64) -> EntryRead
     requires readable { Readable t × (length book.now ≤ 1048576) × (start < 2 ^ 32) × (at < 2 ^ 32) }
     requires first_before { FirstBefore t book.now start at previous }
-    ensures { result ≡ entry_read_of (entryVerdict t book.now start at) (entry_at t book.now at).first }
+    ensures { result ≡ entry_read_of (entry_verdict t book.now start at) (entry_at t book.now at).first }
 {
     if book.len() < at + t.size {
         return EntryRead::Refused(4, at);
@@ -223,7 +223,7 @@ fn check_entry(book: &[u8], t: Table, start: usize, at: usize, previous: u64) ->
 // The first refusal of the `count` entries of the table that starts at byte `start`.
 fn entries_verdict(book: &[u8], t: Table, start: usize, count: u16) -> Verdict
     requires { Readable t × (length book.now ≤ 1048576) × (start < 2 ^ 31) }
-    ensures { result ≡ tableVerdict t book.now start count start }
+    ensures { result ≡ table_verdict t book.now start count start }
 {
     let mut left = count;
     let mut at = start;
@@ -247,7 +247,7 @@ fn entries_verdict(book: &[u8], t: Table, start: usize, count: u16) -> Verdict
 // The same, at once where the table has no entries: the compiler puts this test in place, and an empty table costs no call.
 fn table_verdict(book: &[u8], t: Table, start: usize, count: u16) -> Verdict
     requires { Readable t × (length book.now ≤ 1048576) × (start < 2 ^ 31) }
-    ensures { result ≡ tableVerdict t book.now start count start }
+    ensures { result ≡ table_verdict t book.now start count start }
 {
     if count == 0 {
         return Verdict::Passed;
@@ -314,7 +314,7 @@ fn words_rise(book: &[u8], start: usize, count: usize) -> bool
 // Whether the `count` entries of the table of two words that starts at byte `start` pass: that they end within the book is tested once.
 fn words_pass(book: &[u8], start: usize, count: u16) -> bool
     requires { start < 2 ^ 31 }
-    ensures { result ≡ passes (tableVerdict words_table book.now start count start) }
+    ensures { result ≡ passes (table_verdict words_table book.now start count start) }
 {
     if count == 0 {
         return true;
@@ -328,7 +328,7 @@ fn words_pass(book: &[u8], start: usize, count: u16) -> bool
 // The first refusal of a table of two words: it is looked for only where the table does not pass.
 fn pairs_verdict(book: &[u8], start: usize, count: u16) -> Verdict
     requires { (length book.now ≤ 1048576) × (start < 2 ^ 31) }
-    ensures { result ≡ tableVerdict words_table book.now start count start }
+    ensures { result ≡ table_verdict words_table book.now start count start }
 {
     if words_pass(book, start, count) {
         return Verdict::Passed;
@@ -344,7 +344,7 @@ fn pairs_verdict(book: &[u8], start: usize, count: u16) -> Verdict
 // The same, at once where the table has no entries.
 fn words_verdict(book: &[u8], start: usize, count: u16) -> Verdict
     requires { (length book.now ≤ 1048576) × (start < 2 ^ 31) }
-    ensures { result ≡ tableVerdict words_table book.now start count start }
+    ensures { result ≡ table_verdict words_table book.now start count start }
 {
     if count == 0 {
         return Verdict::Passed;
@@ -355,7 +355,7 @@ fn words_verdict(book: &[u8], start: usize, count: u16) -> Verdict
 // What stands at byte `at`, where a key is due, in a book with this trees mark.
 fn read_key(book: &[u8], trees: bool, at: usize) -> KeyRead
     requires { (length book.now ≤ 1048576) × (at < 2 ^ 32) }
-    ensures { result ≡ key_read_of (keyVerdict trees book.now at) (front_of (key_head book.now at)) }
+    ensures { result ≡ key_read_of (key_verdict trees book.now at) (front_of (key_head book.now at)) }
 {
     if book.len() < at + 28 {
         return KeyRead::Refused(4, at);
@@ -376,7 +376,7 @@ fn read_key(book: &[u8], trees: bool, at: usize) -> KeyRead
 // The first refusal of the `count` keys from byte `start` on, after which the book ends.
 fn keys_verdict(book: &[u8], trees: bool, count: u16, start: usize) -> Verdict
     requires { (length book.now ≤ 1048576) × (start < 2 ^ 31) }
-    ensures { result ≡ keysVerdict trees book.now count start }
+    ensures { result ≡ keys_verdict trees book.now count start }
 {
     let mut left = count;
     let mut at = start;
@@ -402,7 +402,7 @@ fn keys_verdict(book: &[u8], trees: bool, count: u16, start: usize) -> Verdict
 // The first refusal of the four tables and the keys.
 fn parts_verdict(book: &[u8], h: Header, at: Places) -> Verdict
     requires { (length book.now ≤ 1048576) × Near at }
-    ensures { result ≡ partsVerdict book.now h at }
+    ensures { result ≡ parts_verdict book.now h at }
 {
     let gens = Table {
         size: 9,
@@ -438,7 +438,7 @@ const PARENTS_MAX: u16 = 4096;
 
 // The first refusal of a header.
 fn header_verdict(h: Header) -> Verdict
-    ensures { result ≡ headerVerdict h }
+    ensures { result ≡ header_verdict h }
 {
     if (h.layout != 1) | (h.spare != 0) {
         return Verdict::Refused(3, 0);
@@ -455,7 +455,7 @@ fn header_verdict(h: Header) -> Verdict
 // The first refusal of the header, the four tables and the keys.
 fn content_verdict(book: &[u8], h: Header, at: Places) -> Verdict
     requires { (length book.now ≤ 1048576) × Near at }
-    ensures { result ≡ (headerVerdict h then partsVerdict book.now h at) }
+    ensures { result ≡ (header_verdict h then parts_verdict book.now h at) }
 {
     let v = header_verdict(h);
     let Verdict::Passed = v else {
@@ -466,7 +466,7 @@ fn content_verdict(book: &[u8], h: Header, at: Places) -> Verdict
 
 // Whether the bytes are a book: the header and the places of an accepted one, or the refusal.
 pub fn scan(book: &[u8]) -> Scanned
-    ensures { result ≡ scanOf (parse book.now) }
+    ensures { result ≡ scan_of (parse book.now) }
 {
     if 1048576 < book.len() {
         return Scanned::Refused(1, 0);

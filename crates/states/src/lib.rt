@@ -5,12 +5,12 @@ ghost use Rattle.book.specs.Book.{bkey};
 ghost use Rattle.states.specs.StateDistance.{distance, nearer, state_distance};
 ghost use Rattle.states.specs.Steps.{word_or_zero};
 ghost use Rattle.states.specs.CheckStateWords.{
-  stateRequired,
-  snapshotState,
-  subvolStateUnset,
-  subvolumeWord,
-  subvolumeState,
-  checkStateWords,
+  state_required,
+  snapshot_state,
+  subvol_state_unset,
+  subvolume_word,
+  subvolume_state,
+  check_state_words,
 };
 
 use book::KeyHead;
@@ -52,7 +52,7 @@ const SNAP_STATES: [u32; 4] = [SNAP_LIVE, SNAP_WILL_DELETE, SNAP_NO_KEYS, SNAP_D
 
 // Whether states must be set at a version, which is compared as one number.
 fn state_required(version: Version) -> bool
-    ensures { result ≡ stateRequired version.0 }
+    ensures { result ≡ state_required version.0 }
 {
     STATE_REQUIRED_FROM.0 <= version.0
 }
@@ -120,7 +120,7 @@ fn check_snapshot_state(
     n: usize,
 ) -> usize
     requires { n < 2 ^ 62 }
-    ensures added { Added (sink out.old counts.old) n (snapshotState version.0 i value.now) result (sink out.new counts.new) }
+    ensures added { Added (sink out.old counts.old) n (snapshot_state version.0 i value.now) result (sink out.new counts.new) }
     ensures few { result ≤ n + 2 }
 {
     let word = word_or_zero(value, SNAP_STATE);
@@ -142,7 +142,7 @@ fn check_subvolume_state(
     n: usize,
 ) -> usize
     requires { n < 2 ^ 62 }
-    ensures added { Added (sink out.old counts.old) n (when (stateRequired version.0 && subvolStateUnset value.now) (finding 25 i 0)) result (sink out.new counts.new) }
+    ensures added { Added (sink out.old counts.old) n (when (state_required version.0 && subvol_state_unset value.now) (finding 25 i 0)) result (sink out.new counts.new) }
     ensures few { result ≤ n + 1 }
 {
     let word = word_or_zero(value, SUBVOL_STATE);
@@ -168,7 +168,7 @@ fn check_subvolume_word(
     n: usize,
 ) -> usize
     requires { n < 2 ^ 62 }
-    ensures added { Added (sink out.old counts.old) n (subvolumeWord version.0 i word) result (sink out.new counts.new) }
+    ensures added { Added (sink out.old counts.old) n (subvolume_word version.0 i word) result (sink out.new counts.new) }
     ensures few { result ≤ n + 3 }
 {
     if word != 0 {
@@ -193,7 +193,7 @@ fn check_subvolume(
     n: usize,
 ) -> usize
     requires { n < 2 ^ 61 }
-    ensures added { Added (sink out.old counts.old) n (subvolumeState version.0 i value.now) result (sink out.new counts.new) }
+    ensures added { Added (sink out.old counts.old) n (subvolume_state version.0 i value.now) result (sink out.new counts.new) }
     ensures few { result ≤ n + 5 }
 {
     let n = check_subvolume_state(version, value, i, out, counts, n);
@@ -212,7 +212,7 @@ pub fn check_state_words(
     out: &mut [u8],
     counts: &mut [u64],
 ) -> usize
-    ensures found { Found (sink out.old counts.old) (checkStateWords version.0 i (bkey h value.now)) result (sink out.new counts.new) }
+    ensures found { Found (sink out.old counts.old) (check_state_words version.0 i (bkey h value.now)) result (sink out.new counts.new) }
     ensures few { result ≤ 5 }
 {
     if ((h.btree == 9) & (h.key_type == 22)) & (24 <= value.len()) {

@@ -7,10 +7,10 @@ ghost use Rattle.book.specs.Walk.{Opened};
 ghost use Rattle.walk.specs.Keys.{key_at, AtKey, gather, any_key};
 ghost use Rattle.subvolumes.specs.SubvolumeStates.{is_live_snapshot, unavailable, subvolume_states, is_unavailable};
 ghost use Rattle.subvolumes.specs.Steps.{
-  statePair,
+  state_pair,
   Grouped,
   GroupFrom,
-  groupFindings,
+  group_findings,
   judged,
 };
 
@@ -76,7 +76,7 @@ pub fn is_live_snapshot(book: &[u8], p: usize, f: KeyFront) -> bool
 // Puts the pair that the key at byte p gives behind the first n, and returns their number with it.
 fn put_state(book: &[u8], p: usize, f: KeyFront, work: &mut [u64], n: usize) -> usize
     requires { AtKey book.now p f × (2 * n + 2 ≤ length work.old) }
-    ensures put { pairs_of work.new result ≡ pairs_of work.old n ++ statePair p (key_at book.now p) }
+    ensures put { pairs_of work.new result ≡ pairs_of work.old n ++ state_pair p (key_at book.now p) }
     ensures few { result ≤ n + 1 }
 {
     if is_live_snapshot(book, p, f) {
@@ -95,7 +95,7 @@ fn put_state(book: &[u8], p: usize, f: KeyFront, work: &mut [u64], n: usize) -> 
 // Puts a pair for each live snapshot and each tree record, in key order, and returns their number.
 fn put_states(book: &[u8], h: Header, at: Places, work: &mut [u64]) -> usize
     requires { Opened book.now h at × (2 * h.keys ≤ length work.old) }
-    ensures put { pairs_of work.new result ≡ gather statePair book.now h.keys at.keys }
+    ensures put { pairs_of work.new result ≡ gather state_pair book.now h.keys at.keys }
     ensures few { result ≤ h.keys }
 {
     let mut left = h.keys;
@@ -133,7 +133,7 @@ fn show_group(
     m: usize,
 ) -> usize
     requires { Grouped book.now work.now n × GroupFrom work.now n group from × (n < 2 ^ 32) × (group < 2 ^ 34) × (m < 2 ^ 61) }
-    ensures added { Added (sink out.old counts.old) m (groupFindings book.now kind group id (pairs_of work.now n)) result (sink out.new counts.new) }
+    ensures added { Added (sink out.old counts.old) m (group_findings book.now kind group id (pairs_of work.now n)) result (sink out.new counts.new) }
     ensures ends { (m ≤ result) × GroupFrom work.now n (group + 1) (from + (result - m)) }
 {
     let room = out.len() / 17;
@@ -168,7 +168,7 @@ fn show_deleted(
     m: usize,
 ) -> usize
     requires { Grouped book.now work.now n × (n < 2 ^ 32) × (id < 2 ^ 32) × (m < 2 ^ 60) }
-    ensures added { Added (sink out.old counts.old) m (groupFindings book.now 30 (2 * id) id (pairs_of work.now n) ++ groupFindings book.now 31 (2 * id + 1) id (pairs_of work.now n)) result (sink out.new counts.new) }
+    ensures added { Added (sink out.old counts.old) m (group_findings book.now 30 (2 * id) id (pairs_of work.now n) ++ group_findings book.now 31 (2 * id + 1) id (pairs_of work.now n)) result (sink out.new counts.new) }
     ensures few { result ≤ m + n + n }
 {
     let group = 2 * id;

@@ -40,14 +40,14 @@ agreed false false e = refl
 
 -- by the masks, a type that keys of a btree may not have
 by_masks : ℕ → ℕ → Bool
-by_masks btree key_type = not (in_mask (allowed_mask btree) keyType) && not (in_mask (mask_of key_types_anywhere) keyType)
+by_masks btree key_type = not (in_mask (allowed_mask btree) key_type) && not (in_mask (mask_of key_types_anywhere) key_type)
 
 all_agree : all_below (λ b. all_below (λ t. agree (by_masks b t) (foreign_type b t)) 64) 29 ≡ true
 unfolding all_below agree by_masks allowed_mask row_mask mask_of with_bit in_mask has lookup key_types_anywhere key_types_allowed outside foreign_type
 all_agree = refl
 
-pub masked : (btree key_type : ℕ) → btree < 29 → keyType < 64
-    → not (in_mask (allowed_mask btree) keyType) && not (in_mask (mask_of key_types_anywhere) keyType) ≡ foreign_type btree keyType
+pub masked : (btree key_type : ℕ) → btree < 29 → key_type < 64
+    → not (in_mask (allowed_mask btree) key_type) && not (in_mask (mask_of key_types_anywhere) key_type) ≡ foreign_type btree key_type
 unfolding by_masks
 masked b t few low =
     agreed (by_masks b t) (foreign_type b t)
@@ -104,7 +104,7 @@ unfolding allowed_mask row_mask
 mask_beyond b p = rw (no_row 29 64 key_types_allowed b table_under (past b 29 p))
 
 -- a btree without a row holds every type
-pub beyond_btrees : (btree key_type : ℕ) → 29 ≤ btree → false ≡ foreign_type btree keyType
+pub beyond_btrees : (btree key_type : ℕ) → 29 ≤ btree → false ≡ foreign_type btree key_type
 unfolding foreign_type outside
 beyond_btrees b t h = rw (no_row 29 64 key_types_allowed b table_under h)
 
@@ -135,7 +135,7 @@ unfolding under key_types_anywhere
 anywhere_under = refl
 
 -- no row has a type without a bit
-pub beyond_types : (btree key_type : ℕ) → btree < 29 → 64 ≤ keyType → true ≡ foreign_type btree keyType
+pub beyond_types : (btree key_type : ℕ) → btree < 29 → 64 ≤ key_type → true ≡ foreign_type btree key_type
 unfolding foreign_type
 beyond_types b t few h =
     sym

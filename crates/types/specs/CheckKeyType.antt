@@ -58,11 +58,11 @@ key_types_allowed =
 -- "its btree has a row, its type is not in the row, and its type is not among KEY_TYPES_ANYWHERE"
 unfoldable pub outside : Option (List ℕ) → ℕ → Bool
 outside none key_type = false
-outside (some row) key_type = not (has keyType row) && not (has keyType key_types_anywhere)
+outside (some row) key_type = not (has key_type row) && not (has key_type key_types_anywhere)
 
 -- a type that keys of this btree may not have
 unfoldable pub foreign_type : ℕ → ℕ → Bool
-foreign_type btree key_type = outside (lookup btree key_types_allowed) keyType
+foreign_type btree key_type = outside (lookup btree key_types_allowed) key_type
 
 -- 22 bkey_invalid_type_for_btree
 unfoldable pub check_key_type : ℕ → Bkey → List Finding

@@ -9,7 +9,7 @@ pub record ListedOnce (rows : List (ℕ × List ℕ)) (anywhere : List ℕ) : Ty
   -- no btree has two rows
   pub btrees : (btree : ℕ) → count btree (map (λ (row : ℕ × List ℕ). row.0) rows) ≤ 1
   -- "no type twice within one row"
-  pub types : (row : ℕ × List ℕ) → Memᴰ row rows → (key_type : ℕ) → count keyType row.1 ≤ 1
+  pub types : (row : ℕ × List ℕ) → Memᴰ row rows → (key_type : ℕ) → count key_type row.1 ≤ 1
   -- no type of a row is among those anywhere
-  pub apart : (row : ℕ × List ℕ) → Memᴰ row rows → (key_type : ℕ) → has keyType row.1 ≡ true
-      → has keyType anywhere ≡ false
+  pub apart : (row : ℕ × List ℕ) → Memᴰ row rows → (key_type : ℕ) → has key_type row.1 ≡ true
+      → has key_type anywhere ≡ false

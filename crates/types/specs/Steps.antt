@@ -6,11 +6,11 @@ use Rattle.types.specs.CheckKeyType.{key_types_allowed}
 
 -- whether the bit of a type is set in a mask
 unfoldable pub in_mask : ℕ → ℕ → Bool
-in_mask mask key_type = eqb (mask / 2 ^ keyType % 2) 1
+in_mask mask key_type = eqb (mask / 2 ^ key_type % 2) 1
 
 -- a mask with the bit of a type set
 unfoldable pub with_bit : ℕ → ℕ → ℕ
-with_bit keyType mask = cond (in_mask mask keyType) mask (2 ^ keyType + mask)
+with_bit key_type mask = cond (in_mask mask key_type) mask (2 ^ key_type + mask)
 
 -- the mask of some types
 unfoldable pub mask_of : List ℕ → ℕ

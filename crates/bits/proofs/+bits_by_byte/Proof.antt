@@ -28,13 +28,13 @@ Below t = and 1 kinds.ps (falls 1 kinds.ps ◌<◌ μ t) reads.Pre
 -- the bits of the last byte below those before them
 whole : (t : ℕ) (c : lts.After-part (least.Asked, least.Learnt, Below t, reads.Post, part.Asked, part.Learnt) (At t) reads.Post) →
     let a = c.before.before.before.before.before.before.args in
-    (c.before.before.bits-by-byte.result * 2 ^ c.before.before.before.least.result) % 2 ^ 64 + c.part.result ≡ bits_at a.s.now a.from a.n
-whole t c = rw (c.before.before.bits-by-byte.ensures, c.part.ensures) (last_byte _ _ _ (omega arith) (omega arith) c.before.before.before.least.ensures)
+    (c.before.before.bits_by_byte.result * 2 ^ c.before.before.before.least-size.result) % 2 ^ 64 + c.part.result ≡ bits_at a.s.now a.from a.n
+whole t c = rw (c.before.before.bits_by_byte.ensures, c.part.ensures) (last_byte _ _ _ (omega arith) (omega arith) c.before.before.before.least-size.ensures)
 
 pub +bits_by_byte_spec : {M : Type 1} → statement M
 +bits_by_byte_spec =
     close μ λ t. lts.spec (least.Asked, least.Learnt, Below t, reads.Post, part.Asked, part.Learnt) (At t) reads.Post
-    (λ c. no_bits _ _ c.if1.true)
+    (λ c. no_bits _ _ c.if-n-eq0.true)
     (λ c. search rules)
     (λ c. search rules)
     (λ c. search rules)

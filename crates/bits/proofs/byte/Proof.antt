@@ -5,11 +5,11 @@ use borrow.Author.Rules.{rules}
 use Rattle.bits.proofs.byte.Statement.{statement}
 use Rattle.bits.proofs.byte.Tie as tie
 
-cast_result : tie.Need-overflow-cast-result
-cast_result c = omega (arith, c.shared-slice-known.given c.before.args.at)
+cast_result : tie.Need-overflow_cast-result
+cast_result c = omega (arith, c.shared_slice_known-1.given c.before.args.at)
 
 returns : tie.Need-returns
-returns c = (refl, omega (arith, c.shared-slice-known.given c.before.args.at))
+returns c = (refl, omega (arith, c.shared_slice_known-1.given c.before.args.at))
 
 pub byte_spec : {M : Type 1} → statement M
 byte_spec =

@@ -12,7 +12,7 @@ use Rattle.bits.proofs.part.Tie as tie
 one_shl : (k : ℕ) → k < 64 → (1 * 2 ^ k) % 2 ^ 64 ≡ 2 ^ k
 one_shl k h = rw one-mul (mod-eq_of_lt (pow-lt h))
 
-rem_result : tie.Need-nonzero-rem-result
+rem_result : tie.Need-nonzero_rem-result
 rem_result c = rw (one_shl c.args.size (omega arith)) (pow_pos c.args.size)
 
 returns : tie.Need-returns

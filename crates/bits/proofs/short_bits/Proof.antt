@@ -7,7 +7,7 @@ use borrow.Author.Rules.{rules}
 use Rattle.bits.proofs.short_bits.Statement.{statement}
 use Rattle.bits.proofs.short_bits.Tie as tie
 
-returns : tie.Need-returns
+returns : tie.Need-returns-then-end-le8
 returns c =
     let a = c.before.before.before.before.args in
     let shift : 8 - a.from % 8 - a.n ≡ 8 - (a.from % 8 + a.n) = omega arith in

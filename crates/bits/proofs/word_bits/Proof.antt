@@ -5,15 +5,15 @@ use borrow.Author.Rules.{rules}
 use Rattle.bits.proofs.word_bits.Statement.{statement}
 use Rattle.bits.proofs.word_bits.Tie as tie
 
-returns : tie.Need-returns
+returns : tie.Need-returns-then-n-eq32
 returns c =
     let a = c.before.before.before.args in
-    rw c.before.if1.true (c.be32.ensures ∙ sym (bits_be a.s.now (λ j. (c.before.before.shared-slice-known.given j).fits) a.i 4))
+    rw c.before.if-n-eq32.true (c.be32.ensures ∙ sym (bits_be a.s.now (λ j. (c.before.before.shared_slice_known-1.given j).fits) a.i 4))
 
-returns_2 : tie.Need-returns-2
+returns_2 : tie.Need-returns-then-n-eq64
 returns_2 c =
     let a = c.before.before.before.before.args in
-    rw c.before.if2.true (c.be64.ensures ∙ sym (bits_be a.s.now (λ j. (c.before.before.before.shared-slice-known.given j).fits) a.i 8))
+    rw c.before.if-n-eq64.true (c.be64.ensures ∙ sym (bits_be a.s.now (λ j. (c.before.before.before.shared_slice_known-1.given j).fits) a.i 8))
 
 pub word_bits_spec : {M : Type 1} → statement M
 word_bits_spec =

@@ -8,7 +8,7 @@ use Rattle.bits.proofs.Cursor.take.Tie as tie
 returns : tie.Need-returns
 returns c =
     let a = c.before.before.args in
-    (c.bits_at.ensures, refl, rw c.bits_at.ensures (bits_lt a.s.now a.self.at a.n))
+    (c.bits_at-value.ensures, refl, rw c.bits_at-value.ensures (bits_lt a.s.now a.self.at a.n))
 
 pub take_spec : {M : Type 1} → statement M
 take_spec =
