@@ -1,4 +1,6 @@
 // The ids above a snapshot in an array of 1,024, found by a walk of its chain or from those above the snapshot before.
+#![tactic(auto)]
+
 ghost use Rattle.std.specs.Prelude.{◌≡◌, ◌∷◌, ◌+◌, ◌≤◌, ◌<◌, min, length, take, drop};
 ghost use Rattle.std.proofs.Math.Option.{some};
 ghost use Rattle.pairs.specs.Pairs.{has};

@@ -1,4 +1,6 @@
 // Numbers in a byte slice: fields of any number of bits, the most significant first, and words of whole bytes.
+#![tactic(auto)]
+
 ghost use Rattle.std.specs.Prelude.{◌≡◌, ◌+◌, ◌*◌, ◌<◌, ◌≤◌, ◌/◌, ◌%◌, ◌^◌, min, length, get_or};
 ghost use Rattle.bits.specs.Bits.{bits_at, be_at, le_at};
 

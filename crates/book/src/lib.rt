@@ -1,4 +1,6 @@
 // What bytes are a book: its header, its four tables and its keys, in definitions, types and laws; and a key's head, read where it stands.
+#![tactic(auto)]
+
 ghost use Rattle.std.specs.Prelude.{◌≡◌, ◌+◌, ◌≤◌, length};
 ghost use Rattle.book.specs.Book.{key_head};
 ghost use Rattle.book.specs.Walk.{front_of};

@@ -1,4 +1,6 @@
 // The rule on free buckets: `free_space` (kinds 47 to 50).
+#![tactic(auto)]
+
 ghost use Rattle.std.specs.Prelude.{◌≡◌, cond, [], ◌++◌, ◌+◌, ◌-◌, ◌*◌, ◌^◌, ◌<◌, ◌≤◌, max, length, set};
 ghost use Rattle.findings.specs.Findings.{sink, Found, Added, only, each};
 ghost use Rattle.pairs.specs.Pairs.{pairs_of};

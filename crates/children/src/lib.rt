@@ -1,4 +1,6 @@
 // The rule on the children of subvolumes.
+#![tactic(auto)]
+
 ghost use Rattle.std.specs.Prelude.{◌≡◌, ◌++◌, ◌+◌, ◌*◌, ◌%◌, ◌^◌, ◌<◌, ◌≤◌, min, length, get_or, drop};
 ghost use Rattle.findings.specs.Findings.{sink, Found, Added, only, each};
 ghost use Rattle.pairs.specs.Pairs.{pairs_of};

@@ -1,4 +1,6 @@
 // The rule on snapshots that more than one subvolume claims.
+#![tactic(auto)]
+
 ghost use Rattle.std.specs.Prelude.{◌≡◌, ◌++◌, ◌+◌, ◌*◌, ◌^◌, ◌<◌, ◌≤◌, length};
 ghost use Rattle.findings.specs.Findings.{sink, Found};
 ghost use Rattle.pairs.specs.Pairs.{pairs_of, Sorted};

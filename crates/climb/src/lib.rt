@@ -1,4 +1,6 @@
 // The root above an id: by one pass over the keys of a book whose parents are drawn from them, where its snapshots rise.
+#![tactic(auto)]
+
 ghost use Rattle.std.specs.Prelude.{◌≡◌, true, ◌≤◌, length};
 ghost use Rattle.book.specs.Book.{book_of};
 ghost use Rattle.book.specs.KeyMaps.{parents_of};

@@ -1,4 +1,6 @@
 // The rule on snapshots that are deleted or will be.
+#![tactic(auto)]
+
 ghost use Rattle.std.specs.Prelude.{◌≡◌, ◌++◌, ◌&&◌, ◌||◌, ◌+◌, ◌*◌, ◌^◌, ◌<◌, ◌≤◌, length, eqb, leb};
 ghost use Rattle.bits.specs.Bits.{le_at};
 ghost use Rattle.findings.specs.Findings.{sink, finding, when, each, bytes_of, Found, Added};

@@ -1,4 +1,6 @@
 // The main call, the two questions, and their C entries.
+#![tactic(auto)]
+
 ghost use Rattle.std.specs.Prelude.{◌≡◌, ◌+◌, ◌*◌, ◌^◌, ◌<◌, ◌≤◌, length};
 ghost use Rattle.findings.specs.Findings.{sink, Found};
 ghost use Rattle.rules.specs.Rules.{findings_of};

@@ -1,5 +1,7 @@
 // The tree records and snapshots of a book as pairs in the work words: one for each such key, and once they are sorted the last snapshot of an
 // id, by the length that its value has at least; or that snapshot by a walk over the keys.
+#![tactic(auto)]
+
 ghost use Rattle.std.specs.Prelude.{◌≡◌, [], ◌∷◌, ◌++◌, true, cond, ◌&&◌, ◌+◌, ◌*◌, ◌≤◌, ◌<◌, length, eqb, leb};
 ghost use Rattle.pairs.specs.declared.MaybeU64.TheVariants.{Is};
 ghost use Rattle.pairs.specs.Pairs.{pairs_of, Sorted};

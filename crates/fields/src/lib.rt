@@ -1,4 +1,6 @@
 // The rules on one key's device and fields: kinds 1 to 21. A key is its head and the bytes of its value, and `i` is its index.
+#![tactic(auto)]
+
 ghost use Rattle.std.specs.Prelude.{◌≡◌, cond, [], ◌+◌, ◌/◌, ◌<◌, ◌≤◌, ◌%◌, ◌^◌, length, eqb, ltb};
 ghost use Rattle.bits.specs.Bits.{le_at};
 ghost use Rattle.findings.specs.Findings.{sink, Found, Added};

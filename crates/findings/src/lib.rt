@@ -1,4 +1,6 @@
 // The findings buffer. Finding number n stands at byte 17 * n; one that does not fit whole is counted and not written.
+#![tactic(auto)]
+
 ghost use Rattle.std.specs.Prelude.{◌≡◌, ◌+◌, ◌^◌, ◌<◌, ◌≤◌, [], ◌∷◌, length};
 ghost use Rattle.std.proofs.lemmas.List.Edits.{sets};
 ghost use Rattle.findings.specs.Findings.{finding, bytes_of, put, start, when, bump, sink, Added};

@@ -1,4 +1,5 @@
 // Emits three findings into buffers of 51, 50, 17, 16 and 0 bytes, and prints each time the count, the buffer, and the counts by kind that are not 0.
+#![tactic(auto)]
 
 // A byte as a number of 64 bits.
 fn wide(x: u8) -> u64 {

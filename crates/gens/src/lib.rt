@@ -1,4 +1,6 @@
 // The rule on generations of buckets: `bucket_gens_against_alloc` (kind 46).
+#![tactic(auto)]
+
 ghost use Rattle.std.specs.Prelude.{◌≡◌, ◌++◌, ◌+◌, ◌*◌, ◌^◌, ◌<◌, ◌≤◌, length, take};
 ghost use Rattle.findings.specs.Findings.{sink, Found, Added, each};
 ghost use Rattle.pairs.specs.Pairs.{pairs_of, pair, has, Sorted};

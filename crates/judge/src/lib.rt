@@ -1,4 +1,6 @@
 // All rules over an accepted book, in document 01's order.
+#![tactic(auto)]
+
 ghost use Rattle.std.specs.Prelude.{◌≡◌, ◌+◌, ◌*◌, ◌^◌, ◌<◌, ◌≤◌, length};
 ghost use Rattle.findings.specs.Findings.{sink, Found, Counted};
 ghost use Rattle.book.specs.Book.{book_of};

@@ -1,4 +1,6 @@
 // The rules on each key, and the btrees of which a book has keys.
+#![tactic(auto)]
+
 ghost use Rattle.std.specs.Prelude.{◌≡◌, ◌+◌, ◌*◌, ◌^◌, ◌<◌, ◌≤◌};
 ghost use Rattle.findings.specs.Findings.{sink, Found, Added, each};
 ghost use Rattle.book.specs.Book.{bkey, book_of};

@@ -1,4 +1,6 @@
 // Lines of a text that is read and written, bytes that stand there in hexadecimal, and findings in words.
+#![tactic(auto)]
+
 ghost use Rattle.std.specs.Prelude.{◌≡◌, ◌++◌, ◌+◌, ◌/◌, ◌<◌, ◌≤◌, min, eqb, length, take, drop};
 ghost use Rattle.io.specs.Counts.{IsPrefixLen};
 ghost use Rattle.lines.specs.Lines.{digit_of, decoded, line_length, mark_of};

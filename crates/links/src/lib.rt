@@ -1,4 +1,6 @@
 // The rule on the links between snapshots and their trees.
+#![tactic(auto)]
+
 ghost use Rattle.std.specs.Prelude.{◌≡◌, [], ◌∷◌, ◌++◌, cond, not, ◌&&◌, ◌||◌, ◌+◌, ◌*◌, ◌%◌, ◌^◌, ◌<◌, ◌≤◌, length, take, drop, get_or, eqb};
 ghost use Rattle.findings.specs.Findings.{sink, only, each, keep, Found, Added};
 ghost use Rattle.pairs.specs.Pairs.{pairs_of};

@@ -1,5 +1,7 @@
 // Reads a book of at most 65,536 bytes from standard input and writes `findings` and the count, then a line of kind, subject and object for
 // each finding; or `refused`, the refusal's number and its place. Longer input is written as `refused 1 0`, and input that can't be read as `not read`.
+#![tactic(auto)]
+
 ghost use Rattle.listing.specs.Reading.{Within};
 
 use libc::{STDIN_FILENO, STDOUT_FILENO};

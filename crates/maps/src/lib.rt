@@ -1,4 +1,6 @@
 // The maps that rules make from the keys, as sorted pairs in the work words.
+#![tactic(auto)]
+
 ghost use Rattle.std.specs.Prelude.{◌≡◌, ◌+◌, ◌*◌, ◌^◌, ◌≤◌, ◌<◌, length, drop};
 ghost use Rattle.pairs.specs.Pairs.{pair, pair_at, pairs_of, Sorted, count_below};
 ghost use Rattle.maps.specs.Places.{is_for, last_place, goes_on};

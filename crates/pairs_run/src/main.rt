@@ -1,5 +1,7 @@
 // Sorts 300 pairs, then once more as they are sorted, writes them, and looks some up. Then sorts and writes examples of other sizes and orders.
 // Of examples of more than 1,000 pairs it writes a digest, and a few pairs.
+#![tactic(auto)]
+
 ghost use Rattle.std.specs.Prelude.{◌*◌, ◌<◌, ◌≤◌, length};
 ghost use Rattle.pairs.specs.Pairs.{pairs_of, Sorted};
 

@@ -1,4 +1,6 @@
 // The parents of a book: an id's parent through a view of the table or by the snapshot keys, and the root above an id.
+#![tactic(auto)]
+
 ghost use Rattle.std.specs.Prelude.{◌≡◌, ◌≤◌};
 ghost use Rattle.book.specs.Maps.{lookup};
 ghost use Rattle.book.specs.Book.{words_table, words_from, book_of};

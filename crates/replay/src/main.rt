@@ -3,6 +3,8 @@
 // `NUMBER PLACE COUNT | NUMBER ROOT LINKS | NUMBER YES`, and ` | KIND SUBJECT OBJECT` for each finding that the room holds whole. A line
 // that starts with `#` is a heading, and is written as it stands. A line without the 12 bytes, or with more than 65,535 bytes or 4,678 words to
 // lend, is answered by `bad line`. A line of more than 65,535 bytes is read as several.
+#![tactic(auto)]
+
 use dockwrench::{Ancestor, Availability, Checked};
 use libc::STDOUT_FILENO;
 

@@ -1,4 +1,6 @@
 // What a read gave, by its answer; and answers of the main call, in words on standard output.
+#![tactic(auto)]
+
 ghost use Rattle.std.specs.Prelude.{◌≡◌, length};
 ghost use Rattle.book.specs.Refusals.{parse};
 ghost use Rattle.dockwrench.specs.Answers.{check_of, buffer_after, work_after};

@@ -12,6 +12,8 @@
 // line is a book in hexadecimal, or a key, its head's 28 bytes and then its value, whose index is the line's number since the last `=`, counted from 0.
 // Each rule is answered by `findings COUNT` and a line `KIND SUBJECT OBJECT` for each finding; a refused book by `refused NUMBER PLACE`, a book
 // of more keys than the work words are lent for by `more than 128 keys`, and fewer bytes than a head has by `no key`.
+#![tactic(auto)]
+
 ghost use Rattle.std.specs.Prelude.{◌≡◌, ◌*◌, ◌≤◌, length};
 ghost use Rattle.book.specs.Walk.{Opened};
 

@@ -1,5 +1,7 @@
 // Whether bytes are a book: the refusals of documents 01 and 02 by the bytes, by one pass over the header, the tables
 // and the keys.
+#![tactic(auto)]
+
 ghost use Rattle.std.specs.Prelude.{◌≡◌, true, ◌+◌, ◌*◌, ◌^◌, ◌<◌, ◌≤◌, length};
 ghost use Rattle.book.specs.Book.{header_of, words_table, entry_at, places_of, key_head};
 ghost use Rattle.book.specs.Refusals.{

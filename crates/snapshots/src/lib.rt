@@ -1,4 +1,6 @@
 // The rule on the subvolume flags of snapshots.
+#![tactic(auto)]
+
 ghost use Rattle.std.specs.Prelude.{◌≡◌, ◌+◌, ◌*◌, ◌^◌, ◌<◌, ◌≤◌};
 ghost use Rattle.findings.specs.Findings.{sink, Found, Added, only, each};
 ghost use Rattle.book.specs.Book.{book_of};

@@ -1,4 +1,6 @@
 // The rule on state words.
+#![tactic(auto)]
+
 ghost use Rattle.std.specs.Prelude.{◌≡◌, ◌&&◌, ◌+◌, ◌^◌, ◌<◌, ◌≤◌};
 ghost use Rattle.findings.specs.Findings.{sink, finding, when, Found, Added};
 ghost use Rattle.book.specs.Book.{bkey};

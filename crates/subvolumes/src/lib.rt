@@ -1,4 +1,6 @@
 // The rules on unavailable subvolumes.
+#![tactic(auto)]
+
 ghost use Rattle.std.specs.Prelude.{◌≡◌, ◌++◌, ◌&&◌, ◌+◌, ◌-◌, ◌*◌, ◌^◌, ◌<◌, ◌≤◌, length, eqb};
 ghost use Rattle.findings.specs.Findings.{sink, each, Found, Added};
 ghost use Rattle.pairs.specs.Pairs.{pairs_of, Sorted};

@@ -1,4 +1,6 @@
 // Searches of a book's tables, which stand in its bytes and rise by their first fields.
+#![tactic(auto)]
+
 ghost use Rattle.std.specs.Prelude.{◌≡◌, ◌+◌, ◌≤◌, length};
 ghost use Rattle.search.specs.Bound.{LowerBound, Bracket};
 ghost use Rattle.book.specs.Maps.{lookup, lower_bound};

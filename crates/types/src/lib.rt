@@ -1,4 +1,6 @@
 // The rule on the types that a btree holds: kind 22.
+#![tactic(auto)]
+
 ghost use Rattle.std.specs.Prelude.{◌≡◌, [], ◌<◌, ◌≤◌};
 ghost use Rattle.findings.specs.Findings.{sink, Found};
 ghost use Rattle.book.specs.Book.{bkey};

@@ -1,4 +1,6 @@
 // The walk of a rule over the keys of a book: what a key at a place holds; the laws of the walk are in proofs/.
+#![tactic(auto)]
+
 ghost use Rattle.std.specs.Prelude.{◌≡◌, ◌+◌, ◌≤◌};
 ghost use Rattle.bits.specs.Bits.{le_at};
 ghost use Rattle.walk.specs.Keys.{key_at, AtKey};

@@ -11,7 +11,7 @@ returns c =
     let p = c.before.before.before.before.before.before in
     let b = p.before.before in
     let args = b.before.before.before.args in
-    lent args.out.now b.start_of_lem.result args.n b.start_of_lem.ensures
+    lent args.out.now b.start_of-at.result args.n b.start_of-at.ensures
     (record { count = refl; buffer = p.put_first.ensures; counts = c.before.before.count.ensures; encodable = encodable_one (omega arith) (omega arith) (omega arith) })
 
 pub emit_spec : {M : Type 1} → statement M

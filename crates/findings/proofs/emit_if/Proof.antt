@@ -13,5 +13,5 @@ emit_if_spec =
     (λ c κs. search rules)
     (λ c. search rules)
     (λ c. search rules)
-    (λ c. (rw c.before.before.before.before.before.before.before.if1.true c.before.before.before.before.emit.ensures, omega arith))
-    (λ c. (added_nil (rw c.if1.false), omega arith)))
+    (λ c. (rw c.before.before.before.before.before.before.before.if-yes.true c.before.before.before.before.emit.ensures, omega arith))
+    (λ c. (added_nil (rw c.if-yes.false), omega arith)))

@@ -6,20 +6,20 @@ use Rattle.findings.proofs.Laws.{put_full, put_one}
 use Rattle.findings.proofs.put_first.Statement.{statement}
 use Rattle.findings.proofs.put_first.Tie as tie
 
-put_word_requires_2 : tie.Need-put-word-requires-2
+put_word_requires_2 : tie.Need-put_word-requires-2
 put_word_requires_2 c κs =
     let a = c.before.before.before.before.before.before.before.args in
-    omega (arith, length-set a.out.now 0 a.kind, c.before.before.before.put_word.auto.0)
+    omega (arith, length-set a.out.now 0 a.kind, c.before.before.before.put_word.auto.out)
 
-same_length : tie.Need-same-length
+same_length : tie.Need-shape_of-out
 same_length c =
-    c.before.before.put-word2.auto.0 ∙ c.before.before.before.before.before.before.put_word.auto.0 ∙ simp length-set
+    c.before.before.put_word-2.auto.out ∙ c.before.before.before.before.before.before.put_word.auto.out ∙ simp length-set
 
-returns_2 : tie.Need-returns-2
+returns_2 : tie.Need-returns
 returns_2 c =
     let p = c.before.before.before.before.before.before in
     let a = p.before.before.before.before.args in
-    c.before.before.put-word2.ensures
+    c.before.before.put_word-2.ensures
     ∙ ap (λ (l : List ℕ). sets l 9 (bytes_of 8 a.object)) p.put_word.ensures
     ∙ put_one a.out.now a.kind a.subject a.object (omega arith) (omega arith)
 
