@@ -13,10 +13,10 @@ unfolding key_head
 returns c =
     let a = c.before.before.before.before.before.before.before.before.before.before.before.args in
     let s = a.book.now in
-    let btree = taken s 8 c.before.before.before.before.before.before.before.before.before.take.ensures refl in
-    let key-type = taken s 8 {q = 8 * a.at + 8} c.before.before.before.before.before.before.take2.ensures (omega (arith, btree.1)) in
-    let len = taken s 11 {q = 8 * a.at + 16} c.before.before.before.take3.ensures (omega (arith, key-type.1)) in
-    let spare = taken s 5 {q = 8 * a.at + 27} c.before.take4.ensures (omega (arith, len.1)) in
+    let btree = taken s 8 c.before.before.before.before.before.before.before.before.before.take-t.ensures refl in
+    let key-type = taken s 8 {q = 8 * a.at + 8} c.before.before.before.before.before.before.take-t-2.ensures (omega (arith, btree.1)) in
+    let len = taken s 11 {q = 8 * a.at + 16} c.before.before.before.take-t-3.ensures (omega (arith, key-type.1)) in
+    let spare = taken s 5 {q = 8 * a.at + 27} c.before.take-t-4.ensures (omega (arith, len.1)) in
     cc (btree.0, key-type.0, len.0, spare.0)
 
 pub key_front_spec : {M : Type 1} → statement M

@@ -13,11 +13,11 @@ unfolding key_head
 returns c =
     let a = c.before.before.before.before.before.before.before.before.before.before.before.args in
     let s = a.book.now in
-    let size = taken s 32 c.before.before.before.before.before.before.before.before.take.ensures refl in
-    let inode = taken s 64 {q = 8 * a.at + 64} c.before.before.before.before.before.take2.ensures (omega (arith, size.1)) in
-    let offset = taken s 64 {q = 8 * a.at + 128} c.before.before.before.take3.ensures (omega (arith, inode.1)) in
-    let snapshot = taken s 32 {q = 8 * a.at + 192} c.before.take4.ensures (omega (arith, offset.1)) in
-    rw c.before.before.before.before.before.before.before.before.before.key-front.ensures (cc (size.0, inode.0, offset.0, snapshot.0))
+    let size = taken s 32 c.before.before.before.before.before.before.before.before.take-t.ensures refl in
+    let inode = taken s 64 {q = 8 * a.at + 64} c.before.before.before.before.before.take-inode.ensures (omega (arith, size.1)) in
+    let offset = taken s 64 {q = 8 * a.at + 128} c.before.before.before.take-offset.ensures (omega (arith, inode.1)) in
+    let snapshot = taken s 32 {q = 8 * a.at + 192} c.before.take-t-2.ensures (omega (arith, offset.1)) in
+    rw c.before.before.before.before.before.before.before.before.before.key_front-front.ensures (cc (size.0, inode.0, offset.0, snapshot.0))
 
 pub key_head_spec : {M : Type 1} → statement M
 key_head_spec =

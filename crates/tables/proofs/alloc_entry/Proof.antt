@@ -4,7 +4,7 @@ use Rattle.tables.proofs.alloc_entry.Statement.{statement}
 use Rattle.tables.proofs.alloc_entry.Tie as tie
 
 returns : tie.Need-returns
-returns c = rw (c.data-type.ensures, c.before.read-entry.ensures)
+returns c = rw (c.data_type-data_type.ensures, c.read_entry-e.ensures)
 
 pub alloc_entry_spec : {M : Type 1} → statement M
 alloc_entry_spec =

@@ -10,31 +10,29 @@ use native.Mathlib.Omega.{arith}
 use Rattle.tables.proofs.alloc_up.Statement.{statement}
 use Rattle.tables.proofs.alloc_up.Tie as tie
 
-abbrev invariant_loop : tie.invariant-loop
+abbrev invariant_loop : tie.invariant-loop-step
 invariant_loop book start count from bucket low₀ step₀ low step = (0 < step) × Bracket (first_at alloc_table book start) count bucket low count
 
-abbrev decreases_loop : tie.decreases-loop
+abbrev decreases_loop : tie.decreases-loop-step
 decreases_loop book start count from bucket low₀ step₀ low step = count - low
 
 -- the entry that is tried, and its first field
 abbrev tried : tie.After-be64 invariant_loop decreases_loop → ℕ
-tried c = let l = c.before.before.loop in l.low + l.step - 1
+tried c = let l = c.loop-step in l.low + l.step - 1
 
-here : (c : tie.After-be64 invariant_loop decreases_loop) → let a = c.before.before.before.before.args in
+here : (c : tie.After-be64 invariant_loop decreases_loop) → let a = c.args in
     c.be64.result ≡ first_at alloc_table a.book.now a.start (tried c)
-here c = bucket_first _ (λ j. (c.before.before.before.shared-slice-known.given j).fits) _ (tried c) c.be64.ensures
+here c = bucket_first _ (λ j. (c.shared_slice_known-1.given j).fits) _ (tried c) c.be64.ensures
 
-returns : tie.Need-returns invariant_loop decreases_loop
+returns : tie.Need-returns-then-bucket-be64 invariant_loop decreases_loop
 returns c =
     let r = c.before in
-    let l = r.before.before in
-    bracket_down _ _ _ _ _ (tried r) (rising_first l.before.before.requires.0) l.loop.invariant.1 (omega arith) (omega arith) (rw (← here r) c.if1.true)
+    bracket_down _ _ _ _ _ (tried r) (rising_first r.requires.0) r.loop-step.invariant.1 (omega arith) (omega arith) (rw (← here r) c.if-bucket-be64.true)
 
-loop_again : tie.Need-loop-preserved invariant_loop decreases_loop
+loop_again : tie.Need-loop-step-preserved invariant_loop decreases_loop
 loop_again c =
     let r = c.before in
-    let l = r.before.before in
-    (omega arith, bracket_up _ _ _ _ _ (tried r) (rising_first l.before.before.requires.0) l.loop.invariant.1 (omega arith) (omega arith) (rw (← here r) c.if1.false))
+    (omega arith, bracket_up _ _ _ _ _ (tried r) (rising_first r.requires.0) r.loop-step.invariant.1 (omega arith) (omega arith) (rw (← here r) c.if-bucket-be64.false))
 
 pub alloc_up_spec : {M : Type 1} → statement M
 alloc_up_spec =
@@ -42,7 +40,7 @@ alloc_up_spec =
     (tie.spec
     invariant_loop
     decreases_loop
-    (λ c. (omega arith, c.before.requires.1))
+    (λ c. (omega arith, c.requires.1))
     (λ c. search rules)
     (λ c. search rules)
     (λ c. search rules)
@@ -54,4 +52,4 @@ alloc_up_spec =
     (λ c. search rules)
     (λ c. search rules)
     loop_again
-    (λ c. c.before.loop.invariant.1))
+    (λ c. c.loop-step.invariant.1))

@@ -8,8 +8,8 @@ use Rattle.tables.proofs.alloc_within.Tie as tie
 
 returns : tie.Need-returns
 returns c =
-    let a = c.before.before.args in
-    (sym (bound_is data_type_of alloc_table a.book.now a.count a.start a.bucket c.lower-bound64.result c.lower-bound64.ensures), c.lower-bound64.ensures.inside)
+    let a = c.args in
+    (sym (bound_is data_type_of alloc_table a.book.now a.count a.start a.bucket c.lower_bound64.result c.lower_bound64.ensures), c.lower_bound64.ensures.inside)
 
 pub alloc_within_spec : {M : Type 1} → statement M
 alloc_within_spec =

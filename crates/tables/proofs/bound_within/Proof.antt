@@ -10,31 +10,29 @@ use native.Mathlib.Omega.{arith}
 use Rattle.tables.proofs.bound_within.Statement.{statement}
 use Rattle.tables.proofs.bound_within.Tie as tie
 
-abbrev invariant_loop : tie.invariant-loop
+abbrev invariant_loop : tie.invariant-loop-size
 invariant_loop book start count x base₀ size₀ base size = Sized (first_at words_table book start) count x base size
 
-abbrev decreases_loop : tie.decreases-loop
+abbrev decreases_loop : tie.decreases-loop-size
 decreases_loop book start count x base₀ size₀ base size = size
 
 -- the first field in the middle
-here : (c : tie.After-be32 invariant_loop decreases_loop) → let l = c.before.before in let a = l.before.before.before.args in
-    c.be32.result ≡ first_at words_table a.book.now a.start (middle l.loop.base l.loop.size)
+here : (c : tie.After-be32-first invariant_loop decreases_loop) → let l = c in let a = l.args in
+    c.be32-first.result ≡ first_at words_table a.book.now a.start (middle l.loop-size.base l.loop-size.size)
 here c =
-    let l = c.before.before in
-    word_first _ (λ j. (l.before.before.shared-slice-known.given j).fits) _ (middle l.loop.base l.loop.size) c.be32.ensures
+    word_first _ (λ j. (c.shared_slice_known-1.given j).fits) _ (middle c.loop-size.base c.loop-size.size) c.be32-first.ensures
 
-loop_again : tie.Need-loop-preserved invariant_loop decreases_loop
+loop_again : tie.Need-loop-size-preserved invariant_loop decreases_loop
 loop_again c =
     let r = c.before.before in
-    let l = r.before.before in
-    let up = l.before.before.before.requires.0 in
+    let up = r.requires.0 in
     ⊎_elim
-    (λ t. sized_at up.rises l.loop.invariant (omega arith) (sym (here r) ∙ t.0.taken) t.1)
+    (λ t. sized_at up.rises r.loop-size.invariant (omega arith) (sym (here r) ∙ t.if-first-x-2.true) t.base-is)
     (λ t. ⊎_elim
-    (λ u. sized_up _ _ _ _ _ _ (rising_first up) l.loop.invariant (omega arith) (rw (← here r) u.0.taken) (t.1 ∙ u.1))
-    (λ u. sized_down _ _ _ _ _ _ (rising_first up) l.loop.invariant (omega arith) (rw (← here r) u.0.left) (t.1 ∙ u.1))
-    c.before.if1.branch)
-    c.if2.branch
+    (λ u. sized_up _ _ _ _ _ _ (rising_first up) r.loop-size.invariant (omega arith) (rw (← here r) u.if-first-x.true) (t.base-is ∙ u.past-is))
+    (λ u. sized_down _ _ _ _ _ _ (rising_first up) r.loop-size.invariant (omega arith) (rw (← here r) u.if-first-x.false) (t.base-is ∙ u.past-is))
+    c.if-first-x.branch-raw)
+    c.if-first-x-2.branch-raw
 
 pub bound_within_spec : {M : Type 1} → statement M
 bound_within_spec =
@@ -42,8 +40,8 @@ bound_within_spec =
     (tie.spec
     invariant_loop
     decreases_loop
-    (λ c. omega (arith, c.before.before.requires.1.ordered))
-    (λ c. sized_window c.before.before.requires.1)
+    (λ c. omega (arith, c.requires.1.ordered))
+    (λ c. sized_window c.requires.1)
     (λ c. search rules)
     (λ c. search rules)
     (λ c. search rules)
@@ -52,4 +50,4 @@ bound_within_spec =
     (λ c. search rules)
     (λ c. search rules)
     loop_again
-    (λ c. sized_closed c.before.loop.invariant c.loop-test.false))
+    (λ c. sized_closed c.loop-size.invariant c.loop-size-test.false))

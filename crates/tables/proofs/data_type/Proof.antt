@@ -6,13 +6,13 @@ use borrow.Author.Rules.{rules}
 use Rattle.tables.proofs.data_type.Statement.{statement}
 use Rattle.tables.proofs.data_type.Tie as tie
 
-returns : tie.Need-returns
+returns : tie.Need-returns-then-rest-eq1
 unfolding maybe_u8 data_type_of
-returns c = simp (eq-eqb _ _ c.if1.true)
+returns c = simp (eq-eqb _ _ c.if-rest-eq1.true)
 
-returns_2 : tie.Need-returns-2
+returns_2 : tie.Need-returns
 unfolding maybe_u8 data_type_of
-returns_2 c = simp (ne_eqb _ _ c.if1.false)
+returns_2 c = simp (ne_eqb _ _ c.if-rest-eq1.false)
 
 pub data_type_spec : {M : Type 1} → statement M
 data_type_spec =

@@ -6,7 +6,7 @@ pub find_word_spec : {M : Type 1} → statement M
 find_word_spec =
     tie.close
     (tie.spec
-    (λ c κs. c.before.requires)
-    (λ c κs. (c.before.before.requires.0, c.window-near.ensures))
-    (λ c κs. (c.before.before.before.requires.0, c.bound-within.ensures))
-    (λ c. (c.word_at.ensures, c.before.bound-within.ensures.inside)))
+    (λ c κs. c.requires)
+    (λ c κs. (c.requires.0, c.window_near-w.ensures))
+    (λ c κs. (c.requires.0, c.bound_within-at.ensures))
+    (λ c. (c.word_at-word.ensures, c.bound_within-at.ensures.inside)))

@@ -12,38 +12,36 @@ use native.Mathlib.Omega.{arith}
 use Rattle.tables.proofs.lower_bound64.Statement.{statement}
 use Rattle.tables.proofs.lower_bound64.Tie as tie
 
-abbrev invariant_loop : tie.invariant-loop
+abbrev invariant_loop : tie.invariant-loop-size
 invariant_loop book t start count bucket base₀ size₀ base size = Sized (first_at t book start) count bucket base size
 
-abbrev decreases_loop : tie.decreases-loop
+abbrev decreases_loop : tie.decreases-loop-size
 decreases_loop book t start count bucket base₀ size₀ base size = size
 
 -- the first field in the middle
-here : (c : tie.After-be64 invariant_loop decreases_loop) → let l = c.before.before.before in let a = l.before.before.before.args in
-    c.be64.result ≡ first_at a.t a.book.now a.start (middle l.loop.base l.loop.size)
+here : (c : tie.After-be64-first invariant_loop decreases_loop) → let l = c in let a = l.args in
+    c.be64-first.result ≡ first_at a.t a.book.now a.start (middle l.loop-size.base l.loop-size.size)
 here c =
-    let l = c.before.before.before in
-    let a = l.before.before.before.args in
-    c.be64.ensures ∙ sym (first_be a.t a.book.now (λ j. (l.before.before.shared-slice-known.given j).fits)
-    (a.start + middle l.loop.base l.loop.size * a.t.size) 8 l.before.before.before.requires.0)
+    let a = c.args in
+    c.be64-first.ensures ∙ sym (first_be a.t a.book.now (λ j. (c.shared_slice_known-1.given j).fits)
+    (a.start + middle c.loop-size.base c.loop-size.size * a.t.size) 8 c.requires.0)
 
-loop_again : tie.Need-loop-preserved invariant_loop decreases_loop
+loop_again : tie.Need-loop-size-preserved invariant_loop decreases_loop
 loop_again c =
     let r = c.before.before in
-    let l = r.before.before.before in
-    let up = l.before.before.before.requires.2 in
+    let up = r.requires.2 in
     ⊎_elim
-    (λ t. sized_at up.rises l.loop.invariant (omega arith) (sym (here r) ∙ t.0.taken) t.1)
+    (λ t. sized_at up.rises r.loop-size.invariant (omega arith) (sym (here r) ∙ t.if-first-bucket-2.true) t.base-is)
     (λ t. ⊎_elim
-    (λ u. sized_up _ _ _ _ _ _ (rising_first up) l.loop.invariant (omega arith) (rw (← here r) u.0.taken) (t.1 ∙ u.1))
-    (λ u. sized_down _ _ _ _ _ _ (rising_first up) l.loop.invariant (omega arith) (rw (← here r) u.0.left) (t.1 ∙ u.1))
-    c.before.if1.branch)
-    c.if2.branch
+    (λ u. sized_up _ _ _ _ _ _ (rising_first up) r.loop-size.invariant (omega arith) (rw (← here r) u.if-first-bucket.true) (t.base-is ∙ u.past-is))
+    (λ u. sized_down _ _ _ _ _ _ (rising_first up) r.loop-size.invariant (omega arith) (rw (← here r) u.if-first-bucket.false) (t.base-is ∙ u.past-is))
+    c.if-first-bucket.branch-raw)
+    c.if-first-bucket-2.branch-raw
 
 -- the entry in the middle lies within the bytes
-inside : (c : tie.In-loop invariant_loop decreases_loop) → let l = c.before in let a = l.before.before.before.args in
-    a.start + middle l.loop.base l.loop.size * a.t.size + a.t.size ≤ length a.book.now
-inside c = let l = c.before in entry_inside l.before.before.before.requires.2 (middle l.loop.base l.loop.size) (omega arith)
+inside : (c : tie.In-loop-size invariant_loop decreases_loop) →
+    c.args.start + middle c.loop-size.base c.loop-size.size * c.args.t.size + c.args.t.size ≤ length c.args.book.now
+inside c = entry_inside c.requires.2 (middle c.loop-size.base c.loop-size.size) (omega arith)
 
 pub lower_bound64_spec : {M : Type 1} → statement M
 lower_bound64_spec =
@@ -51,8 +49,8 @@ lower_bound64_spec =
     (tie.spec
     invariant_loop
     decreases_loop
-    (λ c. omega (arith, c.before.before.requires.3.ordered))
-    (λ c. sized_window c.before.before.requires.3)
+    (λ c. omega (arith, c.requires.3.ordered))
+    (λ c. sized_window c.requires.3)
     (λ c. search rules)
     (λ c. search rules)
     (λ c. omega (arith, inside c.before))
@@ -61,4 +59,4 @@ lower_bound64_spec =
     (λ c. search rules)
     (λ c. search rules)
     loop_again
-    (λ c. sized_closed c.before.loop.invariant c.loop-test.false))
+    (λ c. sized_closed c.loop-size.invariant c.loop-size-test.false))

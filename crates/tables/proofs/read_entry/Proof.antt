@@ -10,10 +10,10 @@ use Rattle.tables.proofs.read_entry.Tie as tie
 returns : tie.Need-returns
 unfolding entry_at
 returns c =
-    let a = c.before.before.before.before.before.before.args in
+    let a = c.args in
     let s = a.book.now in
-    let first = taken s a.t.first c.before.before.before.before.take.ensures refl in
-    let rest = taken s (8 * a.t.size - a.t.first) c.take2.ensures first.1 in
+    let first = taken s a.t.first c.take-first.ensures refl in
+    let rest = taken s (8 * a.t.size - a.t.first) c.take-rest.ensures first.1 in
     cc (first.0, rest.0)
 
 pub read_entry_spec : {M : Type 1} → statement M

@@ -10,24 +10,23 @@ use Rattle.tables.proofs.window_near.Statement.{statement}
 use Rattle.tables.proofs.window_near.Tie as tie
 
 -- the first field of entry `near`
-here : (c : tie.After-be32) → let a = c.before.before.before.args in
-    c.be32.result ≡ first_at words_table a.book.now a.start a.near
-here c = word_first _ (λ j. (c.before.before.shared-slice-known.given j).fits) _ _ c.be32.ensures
+here : (c : tie.After-be32-first) → let a = c.args in
+    c.be32-first.result ≡ first_at words_table a.book.now a.start a.near
+here c = word_first _ (λ j. (c.shared_slice_known-1.given j).fits) _ _ c.be32-first.ensures
 
-returns_2 : tie.Need-returns-2
+returns_2 : tie.Need-returns-then-first-x
 returns_2 c =
-    let t = c.before.before.before.before in
-    bracket_here t.requires.0 t.args.near (omega arith) (omega (arith, here c.before))
+    bracket_here c.requires.0 c.args.near (omega arith) (omega (arith, here c.before))
 
-window_up_requires : tie.Need-window-up-requires
+window_up_requires : tie.Need-window_up-requires
 window_up_requires c κs =
-    let rises = c.before.before.before.before.before.requires.0 in
+    let rises = c.requires.0 in
     let first = here c.before.before in
     (rises, bracket_up _ _ _ _ _ _ (rising_first rises) (bracket_all _ _ _) (omega arith) (omega arith) (omega (arith, first)))
 
-window_down_requires : tie.Need-window-down-requires
+window_down_requires : tie.Need-window_down-requires
 window_down_requires c κs =
-    let rises = c.before.before.before.before.before.requires.0 in
+    let rises = c.requires.0 in
     let first = here c.before.before in
     (rises, bracket_down _ _ _ _ _ _ (rising_first rises) (bracket_all _ _ _) (omega arith) (omega arith) (omega (arith, first)))
 

@@ -12,36 +12,33 @@ use native.Mathlib.Omega.{arith}
 use Rattle.tables.proofs.word_at.Statement.{statement}
 use Rattle.tables.proofs.word_at.Tie as tie
 
-bytes : (c : tie.After-shared-slice-known) (j : ℕ) → get_or c.before.args.book.now j 0 < 256
-bytes c j = (c.shared-slice-known.given j).fits
+bytes : (c : tie.After-shared_slice_known-1) (j : ℕ) → get_or c.args.book.now j 0 < 256
+bytes c j = (c.shared_slice_known-1.given j).fits
 
-returns : tie.Need-returns
+returns : tie.Need-returns-then-i-count
 unfolding maybe_u32
 returns c =
-    let b = c.before.before in
-    let a = b.args in
-    rw (found_none whole_rest words_table a.book.now a.count a.start a.id a.i b.requires.1 b.requires.0 (λ l e. omega arith))
+    let a = c.args in
+    rw (found_none whole_rest words_table a.book.now a.count a.start a.id a.i c.requires.1 c.requires.0 (λ l e. omega arith))
 
-returns_2 : tie.Need-returns-2
+returns_2 : tie.Need-returns-then-be32-id
 unfolding maybe_u32
 returns_2 c =
     let k = c.before.before.before.before in
-    let b = k.before in
-    let a = b.args in
+    let a = k.args in
     let s = a.book.now in
-    let here = sym (word_first s (bytes k) a.start a.i c.before.before.be32.ensures) ∙ c.before.if2.true in
-    rw (found_at whole_rest words_table s a.count a.start a.id a.i b.requires.1 b.requires.0 (omega (arith, b.requires.1.inside)) here)
-    (ap Is (c.be322.ensures ∙ sym (rest_be words_table s (bytes k) (a.start + a.i * 8) 4 refl 4 refl)))
+    let here = sym (word_first s (bytes k) a.start a.i c.be32.ensures) ∙ c.if-be32-id.true in
+    rw (found_at whole_rest words_table s a.count a.start a.id a.i k.requires.1 k.requires.0 (omega (arith, k.requires.1.inside)) here)
+    (ap Is (c.be32-then-be32-id.ensures ∙ sym (rest_be words_table s (bytes k) (a.start + a.i * 8) 4 refl 4 refl)))
 
-returns_3 : tie.Need-returns-3
+returns_3 : tie.Need-returns
 unfolding maybe_u32
 returns_3 c =
     let k = c.before.before.before in
-    let b = k.before in
-    let a = b.args in
+    let a = k.args in
     let s = a.book.now in
-    let here = word_first s (bytes k) a.start a.i c.before.be32.ensures in
-    rw (found_none whole_rest words_table s a.count a.start a.id a.i b.requires.1 b.requires.0 (λ l e. c.if2.false (here ∙ e)))
+    let here = word_first s (bytes k) a.start a.i c.be32.ensures in
+    rw (found_none whole_rest words_table s a.count a.start a.id a.i k.requires.1 k.requires.0 (λ l e. c.if-be32-id.false (here ∙ e)))
 
 pub word_at_spec : {M : Type 1} → statement M
 word_at_spec =
