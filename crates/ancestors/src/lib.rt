@@ -23,7 +23,7 @@ pub struct Ancestors {
 }
 
 // Which of three ids are among others.
-#[derive(Drop)]
+#[derive(Clone, Copy)]
 pub struct Among {
     pub a: bool,
     pub b: bool,
@@ -32,7 +32,7 @@ pub struct Among {
 
 // What is known of the ids above a snapshot that an array begins with: the snapshot, how many they are, and the root. From the place `near` the
 // next snapshot is looked for.
-#[derive(Drop)]
+#[derive(Clone, Copy)]
 pub struct Line {
     pub id: u32,
     pub len: usize,

@@ -11,7 +11,7 @@ pub mod names;
 
 // The first 32 bytes, field by field. The mark `trees` says that the snapshot_trees btree is present, the mark `drawn` that the parents are
 // those of the snapshot keys.
-#[derive(Drop)]
+#[derive(Clone, Copy)]
 pub struct Header {
     pub layout: u8,
     pub trees: bool,
@@ -29,7 +29,7 @@ pub struct Header {
 }
 
 // Where the tables and the keys start, in bytes.
-#[derive(Drop)]
+#[derive(Clone, Copy)]
 pub struct Places {
     pub parents: usize,
     pub subvolumes: usize,
@@ -39,7 +39,7 @@ pub struct Places {
 }
 
 // A table's form: the bytes of an entry, the bits of its first field, and whether the rest is an alloc entry's.
-#[derive(Drop)]
+#[derive(Clone, Copy)]
 pub struct Table {
     pub size: usize,
     pub first: usize,
@@ -47,14 +47,14 @@ pub struct Table {
 }
 
 // An entry of a table: its first field, and the number that the rest of its bits makes.
-#[derive(Drop)]
+#[derive(Clone, Copy)]
 pub struct Entry {
     pub first: u64,
     pub rest: u64,
 }
 
 // A key's head, with the start and the length of its value.
-#[derive(Drop)]
+#[derive(Clone, Copy)]
 pub struct KeyHead {
     pub btree: u8,
     pub key_type: u8,
@@ -68,7 +68,7 @@ pub struct KeyHead {
 }
 
 // The first four fields of a key's head: what a rule passes over a key by.
-#[derive(Drop)]
+#[derive(Clone, Copy)]
 pub struct KeyFront {
     pub btree: u8,
     pub key_type: u8,
@@ -77,28 +77,28 @@ pub struct KeyFront {
 }
 
 // An alloc entry: a bucket, and its data type, if it has one.
-#[derive(Drop)]
+#[derive(Clone, Copy)]
 pub struct AllocEntry {
     pub bucket: u64,
     pub data_type: MaybeU8,
 }
 
 // Rust's Option<u8>.
-#[derive(Drop)]
+#[derive(Clone, Copy)]
 pub enum MaybeU8 {
     Is(u8),
     Absent,
 }
 
 // Rust's Option<u32>.
-#[derive(Drop)]
+#[derive(Clone, Copy)]
 pub enum MaybeU32 {
     Is(u32),
     Absent,
 }
 
 // What a check of a book, or of a part of it, gives.
-#[derive(Drop)]
+#[derive(Clone, Copy)]
 pub enum Verdict {
     Passed,
     // the refusal's number and its place
@@ -106,7 +106,7 @@ pub enum Verdict {
 }
 
 // What bytes are as a book.
-#[derive(Drop)]
+#[derive(Clone, Copy)]
 pub enum Scanned {
     Accepted { header: Header, places: Places },
     // the refusal's number and its place

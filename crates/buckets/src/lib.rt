@@ -47,7 +47,7 @@ use book::{AllocEntry, Header, KeyFront, KeyHead, MaybeU8, Places};
 use findings::{emit, emit_if, start_of};
 
 // A number of findings, a number of pairs, and a place in a table from where the next search starts: of it only its bound is promised.
-#[derive(Drop)]
+#[derive(Clone, Copy)]
 struct Counts {
     found: usize,
     put: usize,
@@ -55,7 +55,7 @@ struct Counts {
 }
 
 // A number of findings, and such a place.
-#[derive(Drop)]
+#[derive(Clone, Copy)]
 struct Shown {
     found: usize,
     near: usize,
@@ -109,7 +109,7 @@ fn put_run(h: Header, k: KeyHead, work: &mut [u64], n: usize) -> usize
 }
 
 // Entries of an alloc table: the byte where the first of them starts, how many stand before it, and their number.
-#[derive(Drop)]
+#[derive(Clone, Copy)]
 struct Range {
     start: usize,
     low: usize,
@@ -166,7 +166,7 @@ fn is_free(t: MaybeU8) -> bool
 }
 
 // The buckets in use of some alloc entries: their number, and the first of them.
-#[derive(Drop)]
+#[derive(Clone, Copy)]
 struct Used {
     count: u64,
     first: u64,

@@ -241,7 +241,7 @@ fn show_wrongs(
 }
 
 // A child and its parent.
-#[derive(Drop)]
+#[derive(Clone, Copy)]
 struct Child {
     number: u64,
     parent: MaybeU32,

@@ -19,14 +19,14 @@ use pairs::MaybeU64;
 use parents::{Root, Source};
 
 // The id of a snapshot and its parent, or nothing for another key.
-#[derive(Drop)]
+#[derive(Clone, Copy)]
 enum MaybeLink {
     Is { id: u32, parent: u32 },
     Absent,
 }
 
 // What a key says of a walk up the parents: the id that it is at from there on and its links, its end, or that the keys before would be needed.
-#[derive(Drop)]
+#[derive(Clone, Copy)]
 enum Step {
     On { at: u32, links: u32 },
     End(Root),
@@ -34,7 +34,7 @@ enum Step {
 }
 
 // What a pass over the keys says.
-#[derive(Drop)]
+#[derive(Clone, Copy)]
 enum MaybeRoot {
     Known(Root),
     Unknown,

@@ -37,7 +37,7 @@ use parents::{Root, Source};
 
 // What the main call answers: the count of findings, all of which are in the buffer; the full count where not all fit; or a refusal's
 // number and place.
-#[derive(Drop)]
+#[derive(Clone, Copy)]
 pub enum Checked {
     Found(usize),
     NoRoom(usize),
@@ -45,7 +45,7 @@ pub enum Checked {
 }
 
 // What the ancestor question answers.
-#[derive(Drop)]
+#[derive(Clone, Copy)]
 pub enum Ancestor {
     Root { root: u32, links: u32 },
     NoRoot,
@@ -53,7 +53,7 @@ pub enum Ancestor {
 }
 
 // What the availability question answers.
-#[derive(Drop)]
+#[derive(Clone, Copy)]
 pub enum Availability {
     Unavailable,
     Available,

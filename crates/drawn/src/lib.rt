@@ -145,7 +145,7 @@ fn is_alone(w: &[u64], n: usize, r: usize, class: u64, number: u64) -> bool
 
 // What a search from a place on finds: the place of a key, and where among the pairs it ended. Of the latter only its bound is promised: it is a place
 // to start the next search from, and no answer depends on it.
-#[derive(Drop)]
+#[derive(Clone, Copy)]
 pub struct PlaceAt {
     pub at: usize,
     pub place: MaybeU64,

@@ -16,7 +16,7 @@ use book::{Header, KeyFront, Places};
 use findings::{emit_if, start_of};
 
 // A place in a gens table, and a generation.
-#[derive(Drop)]
+#[derive(Clone, Copy)]
 struct Gen {
     at: usize,
     generation: u8,
@@ -136,7 +136,7 @@ fn key_gens(
 }
 
 // A number of findings, and a number of pairs.
-#[derive(Drop)]
+#[derive(Clone, Copy)]
 struct Counts {
     found: usize,
     put: usize,
@@ -198,7 +198,7 @@ fn gens_of_keys(
 }
 
 // A number of 256 buckets, and whether a key covers them.
-#[derive(Drop)]
+#[derive(Clone, Copy)]
 struct Cover {
     block: u64,
     covered: bool,

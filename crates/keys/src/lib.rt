@@ -85,7 +85,7 @@ fn judge_at(
 }
 
 // The btrees of which a book has keys, as far as a rule across keys asks.
-#[derive(Drop)]
+#[derive(Clone, Copy)]
 pub struct Present {
     pub subvolumes: bool,
     pub snapshots: bool,
@@ -108,7 +108,7 @@ fn with_btree(p: Present, b: u8) -> Present
 }
 
 // What these rules found at the keys, and the btrees of these: a rule across keys without keys of its btrees has nothing to find.
-#[derive(Drop)]
+#[derive(Clone, Copy)]
 pub struct Judged {
     pub count: usize,
     pub present: Present,

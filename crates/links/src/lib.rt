@@ -39,7 +39,7 @@ use pairs::MaybeU64;
 use parents::{Root, Source};
 
 // How many findings there are with those of a key, and the line of the last snapshot.
-#[derive(Drop)]
+#[derive(Clone, Copy)]
 struct Shown {
     found: usize,
     line: Line,

@@ -1,7 +1,7 @@
 -- Laws of pairs of numbers and places, as plain lists: their parts, what is kept of them, the last of a number.
 use Prim.Native.Nat.{ℕ, zero, suc, ◌+◌, ◌-◌, ◌*◌, ◌^◌, ◌≤◌, ◌<◌, zero-le, suc-le-suc}
 use mathlib.Core.Path.{◌≡◌, refl, sym, ap, ◌∙◌}
-use mathlib.Core.Bool.{Bool, true, false, cond, ◌&&◌}
+use mathlib.Core.Bool.{Bool, true, false, true≢false, cond, ◌&&◌}
 use mathlib.Core.Logic.{⊎_elim}
 use mathlib.Core.List.{List, [], ◌∷◌, ◌++◌}
 use native.Mathlib.Nat.{le_trans, le_of_suc-le-suc, not-suc-le-zero}
@@ -85,13 +85,19 @@ module _ (test : ℕ → Bool) where
   none_more false true n = refl
   none_more false false n = refl
 
+  some_more : (a b : Bool) (n : ℕ) → a ≡ b → cond {A = ℕ} a (cond true 1 0) 0 + cond b n 0 ≡ cond b (cond true 1 0 + n) 0
+  some_more true true n e = refl
+  some_more true false n e = absurd (true≢false e)
+  some_more false true n e = absurd (true≢false (sym e))
+  some_more false false n e = refl
+
   count_keep : (y : ℕ) (xs : List ℕ) → count y (keep test xs) ≡ cond (test y) (count y xs) 0
   unfolding keep count
   count_keep y [] = ⊎_elim (λ t. rw t) (λ t. rw t) (tested (test y))
   count_keep y (x ∷ xs) =
       count_cons (test x) y x (keep test xs) ∙ ap (λ (n : ℕ). cond (test x) (cond (eqb y x) 1 0) 0 + n) (count_keep y xs)
       ∙ same_or_not y x
-      (λ e. rw (e, eq-eqb x x refl) (⊎_elim (λ t. rw t) (λ t. rw t) (tested (test x))))
+      (λ e. rw (eq-eqb y x e) (some_more (test x) (test y) (count y xs) (ap test (sym e))))
       (λ d. rw (ne_eqb y x d) (none_more (test x) (test y) (count y xs)))
 
   -- a number that passes is kept, and what is kept was there

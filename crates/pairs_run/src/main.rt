@@ -22,7 +22,7 @@ fn next(x: u64) -> u64
 }
 
 // How a number of an example is made: of nothing, of a random number, of a pair's place, or of how many places are left.
-#[derive(Drop)]
+#[derive(Clone, Copy)]
 enum Made {
     Nothing,
     Random,

@@ -14,7 +14,7 @@ use book::MaybeU32;
 use tables::WordAt;
 
 // A view onto the parents table of a lent book.
-#[derive(Drop)]
+#[derive(Clone, Copy)]
 pub struct Parents<'a> {
     pub book: &'a [u8],
     pub start: usize,
@@ -22,7 +22,7 @@ pub struct Parents<'a> {
 }
 
 // Where the parents of a book are found.
-#[derive(Drop)]
+#[derive(Clone, Copy)]
 pub enum Source {
     // in its table: where that starts, and the number of its entries
     Table(usize, usize),
@@ -33,7 +33,7 @@ pub enum Source {
 }
 
 // The root above an id, and the number of parent links followed to it.
-#[derive(Drop)]
+#[derive(Clone, Copy)]
 pub enum Root {
     At { root: u32, links: u32 },
     NoRoot,

@@ -10,7 +10,7 @@ use dockwrench::Checked;
 use libc::STDOUT_FILENO;
 
 // What a read gave: so many bytes, or an error.
-#[derive(Drop)]
+#[derive(Clone, Copy)]
 pub enum Input {
     Bytes(usize),
     Error,

@@ -23,7 +23,7 @@ use states::Version;
 use std::num;
 
 // What judges a line, the number of the line, and the version for state words.
-#[derive(Drop)]
+#[derive(Clone, Copy)]
 struct Section {
     letter: u8,
     line: u64,

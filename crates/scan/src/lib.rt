@@ -23,7 +23,7 @@ use bits::Cursor;
 use book::{Header, KeyFront, Places, Scanned, Table, Verdict};
 
 // The fields of a header in its first 8 bytes.
-#[derive(Drop)]
+#[derive(Clone, Copy)]
 struct HeaderStart {
     layout: u8,
     trees: bool,
@@ -35,7 +35,7 @@ struct HeaderStart {
 }
 
 // The counts of the four tables.
-#[derive(Drop)]
+#[derive(Clone, Copy)]
 struct Counts {
     parents: u16,
     subvolumes: u16,
@@ -44,7 +44,7 @@ struct Counts {
 }
 
 // What stands where an entry of a table is due.
-#[derive(Drop)]
+#[derive(Clone, Copy)]
 pub enum EntryRead {
     // the entry's first field
     First(u64),
@@ -53,7 +53,7 @@ pub enum EntryRead {
 }
 
 // What stands where a key is due.
-#[derive(Drop)]
+#[derive(Clone, Copy)]
 pub enum KeyRead {
     Key(KeyFront),
     // the refusal's number and its place

@@ -19,7 +19,7 @@ use book::KeyHead;
 use findings::emit_if;
 
 // A format version: six bits major above ten bits minor.
-#[derive(Drop)]
+#[derive(Clone, Copy)]
 pub struct Version(pub u16);
 
 // Version 1.39: from here on states must be set.
@@ -67,7 +67,7 @@ pub fn bits_apart(x: u32, y: u32) -> u32
 }
 
 // A state word, and how many bits a word is from it.
-#[derive(Drop)]
+#[derive(Clone, Copy)]
 pub struct Nearest {
     pub distance: u32,
     pub state: u32,

@@ -12,14 +12,14 @@ use book::{AllocEntry, Entry, MaybeU8, MaybeU32, Table};
 
 // What a search from a place on finds: the word, and the place where it ended. Of the place only its bound is promised: it is a place to start the
 // next search from, and no answer depends on it.
-#[derive(Drop)]
+#[derive(Clone, Copy)]
 pub struct WordAt {
     pub at: usize,
     pub word: MaybeU32,
 }
 
 // Entries of a table: those from `low` on, before `high`.
-#[derive(Drop)]
+#[derive(Clone, Copy)]
 pub struct Window {
     pub low: usize,
     pub high: usize,

@@ -10,5 +10,5 @@ goes_on_spec =
     tie.close
     (tie.spec
     (λ c κs. search rules)
-    (λ c. c.is-for.ensures ∙ goes_at _ _ _ c.before.if1.true _ _)
-    (λ c. goes_past _ _ _ _ _ c.if1.false))
+    (λ c. c.is_for.ensures ∙ goes_at _ _ _ c.if-i-n.true _ _)
+    (λ c. goes_past _ _ _ _ _ c.if-i-n.false))

@@ -14,4 +14,4 @@ is_for_spec =
     (λ c. search rules)
     (λ c. search rules)
     (λ c. search rules)
-    (λ c. words_for _ _ _ _ (c.shared-slice-known2.given _).fits))
+    (λ c. words_for _ _ _ _ (c.shared_slice_known-2-1.given _).fits))

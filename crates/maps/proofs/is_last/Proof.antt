@@ -6,9 +6,7 @@ use Rattle.maps.proofs.is_last.Tie as tie
 
 returns : tie.Need-returns
 returns c =
-    let t = c.before in
-    let s = t.before.before.before in
-    last_is s.args.w.now s.args.n s.args.i s.requires.1 (λ k. (t.before.shared-slice-known2.given k).fits) s.args.which t.is-for.ensures c.goes_on.ensures
+    last_is c.args.w.now c.args.n c.args.i c.requires.1 (λ k. (c.shared_slice_known-2-1.given k).fits) c.args.which c.is_for-own.ensures c.goes_on-more.ensures
 
 pub is_last_spec : {M : Type 1} → statement M
 is_last_spec =

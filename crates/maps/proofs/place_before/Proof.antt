@@ -31,21 +31,21 @@ none t h =
     none_bound t.args.which t.args.number (omega arith) (pairs_of t.args.w.now t.args.n) t.args.r t.requires.1 t.requires.3
     (λ z e. true≢false (sym e ∙ before t z (h z)))
 
-returns : tie.Need-returns
+returns : tie.Need-returns-then-r-eq0
 returns c = sym (none c.before.before (λ z. absurd (omega arith)))
 
-returns_2 : tie.Need-returns-2
+returns_2 : tie.Need-returns-then-is_for
 returns_2 c =
     let t = c.before.before.before.before.before in
     let w = t.args.w.now in
     let r = t.args.r in
     sym
     (last_bound t.args.which t.args.number (omega arith) (pairs_of w t.args.n) r t.requires.1 t.requires.3 (omega arith)
-    (before t (omega arith) (sym c.before.before.is-for.ensures ∙ c.before.if2.true))
-    ∙ ap Is (place_at w t.args.n (r - 1) (omega (arith, inside t)) (λ k. (c.shared-slice-known2.given k).fits)))
+    (before t (omega arith) (sym c.is_for.ensures ∙ c.if-is_for.true))
+    ∙ ap Is (place_at w t.args.n (r - 1) (omega (arith, inside t)) (λ k. (c.shared_slice_known-then-is_for-1.given k).fits)))
 
-returns_3 : tie.Need-returns-3
-returns_3 c = sym (none c.before.before.before.before (λ z. sym c.before.is-for.ensures ∙ c.if2.false))
+returns_3 : tie.Need-returns-else-is_for
+returns_3 c = sym (none c.before.before.before.before (λ z. sym c.is_for.ensures ∙ c.if-is_for.false))
 
 pub place_before_spec : {M : Type 1} → statement M
 place_before_spec =

@@ -9,19 +9,19 @@ use native.Mathlib.Omega.{arith}
 use Rattle.scan.proofs.bad_entry.Statement.{statement}
 use Rattle.scan.proofs.bad_entry.Tie as tie
 
-returns : tie.Need-returns
+returns : tie.Need-returns-then-not-t
 unfolding bad_rest
-returns c = rw (not-true c.before.before.before.args.t.typed c.if1.true)
+returns c = rw (not-true c.args.t.typed c.if-not-t.true)
 
-take_requires : tie.Need-take-requires
-take_requires c κs = omega (arith, c.before.before.before.requires.0.typed (not-false _ c.if1.false))
+take_requires : tie.Need-take-rest-requires
+take_requires c κs = omega (arith, c.requires.0.typed (not-false _ c.if-not-t.false))
 
-returns_2 : tie.Need-returns-2
+returns_2 : tie.Need-returns
 unfolding entry_at
 returns_2 c =
-    let typed = not-false _ c.before.before.if1.false in
-    let form = c.before.before.before.before.before.requires.0.typed typed in
-    c.bad-rest.ensures ∙ rw (typed, form.0, form.1) (ap (bad_rest true) c.before.take.ensures.0)
+    let typed = not-false _ c.if-not-t.false in
+    let form = c.requires.0.typed typed in
+    c.bad_rest.ensures ∙ rw (typed, form.0, form.1) (ap (bad_rest true) c.take-rest.ensures.0)
 
 pub bad_entry_spec : {M : Type 1} → statement M
 bad_entry_spec =

@@ -8,37 +8,31 @@ use borrow.Author.Rules.{rules}
 use Rattle.scan.proofs.check_entry.Statement.{statement}
 use Rattle.scan.proofs.check_entry.Tie as tie
 
-returns : tie.Need-returns
+returns : tie.Need-returns-then-book-at
 unfolding entry_read_of entry_verdict ◌then◌ refuse
-returns c = simp (lt-ltb _ _ c.if1.true)
+returns c = simp (lt-ltb _ _ c.if-book-at.true)
 
-returns_2 : tie.Need-returns-2
+returns_2 : tie.Need-returns-then-bad_entry
 unfolding entry_read_of entry_verdict ◌then◌ refuse
-returns_2 c = simp (le-ltb _ _ c.before.before.if1.false, ← c.before.bad-entry.ensures, c.if2.true)
+returns_2 c = simp (le-ltb _ _ c.if-book-at.false, ← c.bad_entry.ensures, c.if-bad_entry.true)
 
-returns_3 : tie.Need-returns-3
+returns_3 : tie.Need-returns-then-at-start
 unfolding entry_read_of entry_verdict ◌then◌ refuse
 returns_3 c =
-    let r = c.before.before in
-    let b = r.before.before in
-    simp (le-ltb _ _ b.before.if1.false, ← b.bad-entry.ensures, r.before.if2.false, lt-leb _ _ c.if3.true) (ap First r.read_first.ensures)
+    simp (le-ltb _ _ c.if-book-at.false, ← c.bad_entry.ensures, c.if-bad_entry.false, lt-leb _ _ c.if-at-start.true) (ap First c.read_first-first.ensures)
 
-returns_4 : tie.Need-returns-4
+returns_4 : tie.Need-returns-then-first-previous
 unfolding entry_read_of entry_verdict ◌then◌ refuse
 returns_4 c =
-    let r = c.before.before.before in
-    let b = r.before.before in
-    let order = rw (r.read_first.ensures, b.before.before.before.before.requires.1 c.before.if3.false) at c.if4.true in
-    simp (le-ltb _ _ b.before.if1.false, ← b.bad-entry.ensures, r.before.if2.false, le-leb _ _ c.before.if3.false, le-leb _ _ order)
+    let order = rw (c.read_first-first.ensures, c.requires.1 c.if-at-start.false) at c.if-first-previous.true in
+    simp (le-ltb _ _ c.if-book-at.false, ← c.bad_entry.ensures, c.if-bad_entry.false, le-leb _ _ c.if-at-start.false, le-leb _ _ order)
 
-returns_5 : tie.Need-returns-5
+returns_5 : tie.Need-returns
 unfolding entry_read_of entry_verdict ◌then◌ refuse
 returns_5 c =
-    let r = c.before.before.before in
-    let b = r.before.before in
-    let order = rw (r.read_first.ensures, b.before.before.before.before.requires.1 c.before.if3.false) at c.if4.false in
-    simp (le-ltb _ _ b.before.if1.false, ← b.bad-entry.ensures, r.before.if2.false, le-leb _ _ c.before.if3.false, lt-leb _ _ order)
-    (ap First r.read_first.ensures)
+    let order = rw (c.read_first-first.ensures, c.requires.1 c.if-at-start.false) at c.if-first-previous.false in
+    simp (le-ltb _ _ c.if-book-at.false, ← c.bad_entry.ensures, c.if-bad_entry.false, le-leb _ _ c.if-at-start.false, lt-leb _ _ order)
+    (ap First c.read_first-first.ensures)
 
 pub check_entry_spec : {M : Type 1} → statement M
 check_entry_spec =

@@ -4,10 +4,10 @@ use borrow.Author.Rules.{rules}
 use Rattle.scan.proofs.content_verdict.Statement.{statement}
 use Rattle.scan.proofs.content_verdict.Tie as tie
 
-returns : tie.Need-returns
+returns : tie.Need-returns-in_default
 returns c = search stopped
 
-returns_2 : tie.Need-returns-2
+returns_2 : tie.Need-returns
 returns_2 c = search passed_on
 
 pub content_verdict_spec : {M : Type 1} → statement M

@@ -9,30 +9,28 @@ use native.Mathlib.Omega.{arith}
 use Rattle.scan.proofs.each_rise.Statement.{statement}
 use Rattle.scan.proofs.each_rise.Tie as tie
 
-abbrev invariant_loop : tie.invariant-loop
+abbrev invariant_loop : tie.invariant-loop-left
 invariant_loop book start count at₀ left₀ at left = (at + 8 * left ≡ start + 8 * count) × (words_rise book count start ≡ words_rise book left at)
 
-abbrev decreases_loop : tie.decreases-loop
+abbrev decreases_loop : tie.decreases-loop-left
 decreases_loop book start count at₀ left₀ at left = left
 
 -- the two words that a turn reads
-above : (c : tie.After-be322 invariant_loop decreases_loop) → let l = c.before.before.before in
-    c.before.be32.result ≡ word l.before.before.args.book.now (l.loop.at + 8)
-above c = word_be _ (λ j. (c.before.before.before.before.shared-slice-known.given j).fits) _ c.before.be32.ensures
+above : (c : tie.After-be32-in-loop-left invariant_loop decreases_loop) → let l = c in
+    c.be32.result ≡ word l.args.book.now (l.loop-left.at + 8)
+above c = word_be _ (λ j. (c.shared_slice_known-1.given j).fits) _ c.be32.ensures
 
-here : (c : tie.After-be322 invariant_loop decreases_loop) → let l = c.before.before.before in
-    c.be322.result ≡ word l.before.before.args.book.now l.loop.at
-here c = word_be _ (λ j. (c.before.before.before.before.shared-slice-known.given j).fits) _ c.be322.ensures
+here : (c : tie.After-be32-in-loop-left invariant_loop decreases_loop) → let l = c in
+    c.be32-in-loop-left.result ≡ word l.args.book.now l.loop-left.at
+here c = word_be _ (λ j. (c.shared_slice_known-1.given j).fits) _ c.be32-in-loop-left.ensures
 
-returns : tie.Need-returns invariant_loop decreases_loop
+returns : tie.Need-returns-then-be32 invariant_loop decreases_loop
 returns c =
-    let l = c.before.before.before.before in
-    rise_stop _ _ _ (omega arith) (omega (arith, above c.before, here c.before)) ∙ sym l.loop.invariant.1
+    rise_stop _ _ _ (omega arith) (omega (arith, above c.before, here c.before)) ∙ sym c.loop-left.invariant.1
 
-loop_again : tie.Need-loop-preserved invariant_loop decreases_loop
+loop_again : tie.Need-loop-left-preserved invariant_loop decreases_loop
 loop_again c =
-    let l = c.before.before.before.before in
-    (omega arith, l.loop.invariant.1 ∙ rise_on _ _ _ (omega arith) (omega (arith, above c.before, here c.before)))
+    (omega arith, c.loop-left.invariant.1 ∙ rise_on _ _ _ (omega arith) (omega (arith, above c.before, here c.before)))
 
 pub each_rise_spec : {M : Type 1} → statement M
 each_rise_spec =
@@ -49,4 +47,4 @@ each_rise_spec =
     (λ c. search rules)
     (λ c. search rules)
     loop_again
-    (λ c. rise_none _ _ (omega arith) ∙ sym c.before.loop.invariant.1))
+    (λ c. rise_none _ _ (omega arith) ∙ sym c.loop-left.invariant.1))

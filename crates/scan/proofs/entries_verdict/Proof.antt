@@ -14,47 +14,46 @@ use native.Mathlib.Omega.{arith}
 use Rattle.scan.proofs.entries_verdict.Statement.{statement}
 use Rattle.scan.proofs.entries_verdict.Tie as tie
 
-abbrev invariant_loop : tie.invariant-loop
+abbrev invariant_loop : tie.invariant-loop-left
 invariant_loop book t start count left₀ at₀ previous₀ left at previous =
     (left ≤ count) × (at ≤ start + length book) × (table_verdict t book start count start ≡ table_verdict t book start left at) ×
     FirstBefore t book start at previous
 
-abbrev decreases_loop : tie.decreases-loop
+abbrev decreases_loop : tie.decreases-loop-left
 decreases_loop book t start count left₀ at₀ previous₀ left at previous = left
 
-loop_holds : tie.Need-loop-init invariant_loop decreases_loop
+loop_holds : tie.Need-loop-left-init invariant_loop decreases_loop
 loop_holds c = (omega arith, omega arith, refl, λ h. absurd (omega arith))
 
-check_entry_requires : tie.Need-check-entry-requires invariant_loop decreases_loop
-check_entry_requires c κs = ((c.before.before.before.requires.0, omega arith, omega arith, omega arith), c.before.loop.invariant.3)
+check_entry_requires : tie.Need-check_entry-e-requires invariant_loop decreases_loop
+check_entry_requires c κs = ((c.requires.0, omega arith, omega arith, omega arith), c.loop-left.invariant.3)
 
 -- an entry that was read: its verdict, and its first field
-passed : (c : tie.After-struct-known invariant_loop decreases_loop) →
-    let l = c.before.before.before.before.before.before in let a = l.before.before.args in let at = l.loop.at in
+passed : (c : tie.After-struct_known-1 invariant_loop decreases_loop) →
+    let l = c in let a = l.args in let at = l.loop-left.at in
     (entry_verdict a.t a.book.now a.start at ≡ Passed) ×
-    ((entry_at a.t a.book.now at).first ≡ c.before.before.e2.given.0.0)
-passed c = entry_passed _ _ (sym c.before.before.before.before.check-entry.ensures ∙ c.before.before.e2.given.1)
+    ((entry_at a.t a.book.now at).first ≡ c.e-in-First-1.given.0.0)
+passed c = entry_passed _ _ (sym c.check_entry-e.ensures ∙ c.e-in-First-1.given.1)
 
-returns : tie.Need-returns invariant_loop decreases_loop
+returns : tie.Need-returns-in-Refused invariant_loop decreases_loop
 returns c =
     sym
-    (c.before.before.before.before.before.loop.invariant.2 ∙ table_step _ _ _ _ _ (omega arith) ∙
-    stops _ (entry_refused _ _ (sym c.before.before.before.check-entry.ensures ∙ c.before.e.given.1)) refl)
+    (c.loop-left.invariant.2 ∙ table_step _ _ _ _ _ (omega arith) ∙
+    stops _ (entry_refused _ _ (sym c.check_entry-e.ensures ∙ c.e-1.given.1)) refl)
 
-loop_again : tie.Need-loop-preserved invariant_loop decreases_loop
+loop_again : tie.Need-loop-left-preserved invariant_loop decreases_loop
 loop_again c =
-    let l = c.before.before.before.before.before.before in
-    let a = l.before.before.args in
-    let at = l.loop.at in
+    let a = c.args in
+    let at = c.loop-left.at in
     let back : at ≡ at + a.t.size - a.t.size = omega arith in (
       omega arith,
       omega (arith, entry_fits _ _ _ _ (passed c).0),
-      l.loop.invariant.2 ∙ table_step _ _ _ _ _ (omega arith) ∙ goes_on _ (passed c).0 refl,
+      c.loop-left.invariant.2 ∙ table_step _ _ _ _ _ (omega arith) ∙ goes_on _ (passed c).0 refl,
       λ h. sym (passed c).1 ∙ ap (λ (p : ℕ). (entry_at a.t a.book.now p).first) back,
     )
 
-returns_2 : tie.Need-returns-2 invariant_loop decreases_loop
-returns_2 c = sym (c.before.loop.invariant.2 ∙ table_none _ _ _ _ (omega arith))
+returns_2 : tie.Need-returns invariant_loop decreases_loop
+returns_2 c = sym (c.loop-left.invariant.2 ∙ table_none _ _ _ _ (omega arith))
 
 pub entries_verdict_spec : {M : Type 1} → statement M
 entries_verdict_spec =

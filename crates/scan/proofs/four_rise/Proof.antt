@@ -11,42 +11,42 @@ use Rattle.scan.proofs.four_rise.Statement.{statement}
 use Rattle.scan.proofs.four_rise.Tie as tie
 
 -- the words that are read
-one : (c : tie.After-be32) → let a = c.before.before.args in c.be32.result ≡ word a.book.now (a.at + 8)
-one c = word_be _ (λ j. (c.before.shared-slice-known.given j).fits) _ c.be32.ensures
+one : (c : tie.After-be32-one) → let a = c.args in c.be32-one.result ≡ word a.book.now (a.at + 8)
+one c = word_be _ (λ j. (c.shared_slice_known-1.given j).fits) _ c.be32-one.ensures
 
-two : (c : tie.After-be322) → let a = c.before.before.before.before.args in c.be322.result ≡ word a.book.now (a.at + 16)
-two c = word_be _ (λ j. (c.before.before.before.shared-slice-known.given j).fits) _ c.be322.ensures
+two : (c : tie.After-be32-two) → let a = c.args in c.be32-two.result ≡ word a.book.now (a.at + 16)
+two c = word_be _ (λ j. (c.shared_slice_known-1.given j).fits) _ c.be32-two.ensures
 
-three : (c : tie.After-be323) → let a = c.before.before.before.before.before.before.args in c.be323.result ≡ word a.book.now (a.at + 24)
-three c = word_be _ (λ j. (c.before.before.before.before.before.shared-slice-known.given j).fits) _ c.be323.ensures
+three : (c : tie.After-be32-three) → let a = c.args in c.be32-three.result ≡ word a.book.now (a.at + 24)
+three c = word_be _ (λ j. (c.shared_slice_known-1.given j).fits) _ c.be32-three.ensures
 
 -- the tests that were passed
-rise_one : (c : tie.Else1) → let a = c.before.before.before.args in ltb (word a.book.now a.at) (word a.book.now (a.at + 8)) ≡ true
-rise_one c = lt-ltb _ _ (rw (one c.before, c.before.before.before.requires.1) at c.if1.false)
+rise_one : (c : tie.Else-one-first) → let a = c.args in ltb (word a.book.now a.at) (word a.book.now (a.at + 8)) ≡ true
+rise_one c = lt-ltb _ _ (rw (one c.before, c.requires.1) at c.if-one-first.false)
 
-rise_two : (c : tie.Else2) → let a = c.before.before.before.before.before.args in
+rise_two : (c : tie.Else-two-one) → let a = c.args in
     ltb (word a.book.now (a.at + 8)) (word a.book.now (a.at + 16)) ≡ true
-rise_two c = lt-ltb _ _ (rw (one c.before.before.before, two c.before) at c.if2.false)
+rise_two c = lt-ltb _ _ (rw (one c.before.before.before, two c.before) at c.if-two-one.false)
 
-rise_three : (c : tie.Else3) → let a = c.before.before.before.before.before.before.before.args in
+rise_three : (c : tie.Else-three-two) → let a = c.args in
     ltb (word a.book.now (a.at + 16)) (word a.book.now (a.at + 24)) ≡ true
-rise_three c = lt-ltb _ _ (rw (two c.before.before.before, three c.before) at c.if3.false)
+rise_three c = lt-ltb _ _ (rw (two c.before.before.before, three c.before) at c.if-three-two.false)
 
-returns : tie.Need-returns
-returns c = sym (rise_four _ _ ∙ rw (← one c.before, ← c.before.before.before.requires.1, le-ltb _ _ c.if1.true))
+returns : tie.Need-returns-then-one-first
+returns c = sym (rise_four _ _ ∙ rw (← one c.before, ← c.requires.1, le-ltb _ _ c.if-one-first.true))
 
-returns_2 : tie.Need-returns-2
-returns_2 c = sym (rise_four _ _ ∙ rw (rise_one c.before.before, ← one c.before.before.before, ← two c.before, le-ltb _ _ c.if2.true))
+returns_2 : tie.Need-returns-then-two-one
+returns_2 c = sym (rise_four _ _ ∙ rw (rise_one c.before.before, ← one c.before.before.before, ← two c.before, le-ltb _ _ c.if-two-one.true))
 
-returns_3 : tie.Need-returns-3
+returns_3 : tie.Need-returns-then-three-two
 returns_3 c =
     sym
     (rise_four _ _ ∙
-    rw (rise_one c.before.before.before.before, rise_two c.before.before, ← two c.before.before.before, ← three c.before, le-ltb _ _ c.if3.true))
+    rw (rise_one c.before.before.before.before, rise_two c.before.before, ← two c.before.before.before, ← three c.before, le-ltb _ _ c.if-three-two.true))
 
-returns_4 : tie.Need-returns-4
+returns_4 : tie.Need-returns
 returns_4 c =
-    let four = word_be _ (λ j. (c.before.before.before.before.before.before.before.shared-slice-known.given j).fits) _ c.be324.ensures in
+    let four = word_be _ (λ j. (c.shared_slice_known-1.given j).fits) _ c.be32.ensures in
     sym
     (rise_four _ _ ∙
     rw (rise_one c.before.before.before.before.before, rise_two c.before.before.before, rise_three c.before, ← three c.before.before, ← four))

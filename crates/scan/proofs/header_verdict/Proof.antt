@@ -4,21 +4,21 @@ use Rattle.book.specs.Refusals.{refuse, ◌then◌, header_verdict}
 use Rattle.scan.proofs.header_verdict.Statement.{statement}
 use Rattle.scan.proofs.header_verdict.Tie as tie
 
-returns : tie.Need-returns
+returns : tie.Need-returns-then-h
 unfolding header_verdict ◌then◌ refuse
-returns c = simp c.if1.true
+returns c = simp c.if-h.true
 
-returns_2 : tie.Need-returns-2
+returns_2 : tie.Need-returns-then-h-2
 unfolding header_verdict ◌then◌ refuse
-returns_2 c = simp (c.before.before.before.if1.false, c.if2.true)
+returns_2 c = simp (c.if-h.false, c.if-h-2.true)
 
-returns_3 : tie.Need-returns-3
+returns_3 : tie.Need-returns-then-h-gt-PARENTS_MAX
 unfolding header_verdict ◌then◌ refuse
-returns_3 c = simp (c.before.before.before.before.before.if1.false, c.before.before.if2.false, lt-ltb _ _ c.if3.true)
+returns_3 c = simp (c.if-h.false, c.if-h-2.false, lt-ltb _ _ c.if-h-gt-PARENTS_MAX.true)
 
-returns_4 : tie.Need-returns-4
+returns_4 : tie.Need-returns
 unfolding header_verdict ◌then◌ refuse
-returns_4 c = simp (c.before.before.before.before.before.if1.false, c.before.before.if2.false, le-ltb _ _ c.if3.false)
+returns_4 c = simp (c.if-h.false, c.if-h-2.false, le-ltb _ _ c.if-h-gt-PARENTS_MAX.false)
 
 pub header_verdict_spec : {M : Type 1} → statement M
 header_verdict_spec =

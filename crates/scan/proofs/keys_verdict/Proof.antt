@@ -14,41 +14,41 @@ use native.Mathlib.Omega.{arith}
 use Rattle.scan.proofs.keys_verdict.Statement.{statement}
 use Rattle.scan.proofs.keys_verdict.Tie as tie
 
-abbrev invariant_loop : tie.invariant-loop
+abbrev invariant_loop : tie.invariant-loop-left
 invariant_loop book trees count start left₀ at₀ left at =
     (left ≤ count) × (at ≤ start + length book) × (keys_verdict trees book count start ≡ keys_verdict trees book left at)
 
-abbrev decreases_loop : tie.decreases-loop
+abbrev decreases_loop : tie.decreases-loop-left
 decreases_loop book trees count start left₀ at₀ left at = left
 
 -- a key that was read: its verdict, and where it ends
-passed : (c : tie.After-struct-known invariant_loop decreases_loop) → let s = c.before.before.before.before.before.before.before.before.args.book.now in let at = c.before.before.before.before.before.before.loop.at in
-    (key_verdict c.before.before.before.before.before.before.before.before.args.trees s at ≡ Passed) × (at + 28 + c.before.before.k2.given.0.0.len ≡ key_end s at)
+passed : (c : tie.After-struct_known-1 invariant_loop decreases_loop) → let s = c.args.book.now in let at = c.loop-left.at in
+    (key_verdict c.args.trees s at ≡ Passed) × (at + 28 + c.k-in-Key-1.given.0.0.len ≡ key_end s at)
 passed c =
-    let got = read_key _ _ (sym c.before.before.before.before.read-key.ensures ∙ c.before.before.k2.given.1) in
+    let got = read_key _ _ (sym c.read_key-k.ensures ∙ c.k-in-Key-1.given.1) in
     (got.0, front_end _ _ (sym got.1))
 
-returns : tie.Need-returns invariant_loop decreases_loop
+returns : tie.Need-returns-in-Refused invariant_loop decreases_loop
 returns c =
     sym
-    (c.before.before.before.before.before.loop.invariant.2 ∙ keys_step _ _ _ _ (omega arith) ∙
-    stops _ (read_refused _ _ (sym c.before.before.before.read-key.ensures ∙ c.before.k.given.1)) refl)
+    (c.loop-left.invariant.2 ∙ keys_step _ _ _ _ (omega arith) ∙
+    stops _ (read_refused _ _ (sym c.read_key-k.ensures ∙ c.k-1.given.1)) refl)
 
-loop_again : tie.Need-loop-preserved invariant_loop decreases_loop
+loop_again : tie.Need-loop-left-preserved invariant_loop decreases_loop
 loop_again c =
     let fits = key_fits _ _ _ (passed c).0 in (
       omega arith,
       omega (arith, (passed c).1),
-      c.before.before.before.before.before.before.loop.invariant.2 ∙ keys_step _ _ _ _ (omega arith) ∙ goes_on _ (passed c).0 refl ∙ ap (keys_verdict _ _ _) (sym (passed c).1),
+      c.loop-left.invariant.2 ∙ keys_step _ _ _ _ (omega arith) ∙ goes_on _ (passed c).0 refl ∙ ap (keys_verdict _ _ _) (sym (passed c).1),
     )
 
-returns_2 : tie.Need-returns-2 invariant_loop decreases_loop
+returns_2 : tie.Need-returns-then-at-book invariant_loop decreases_loop
 unfolding refuse
-returns_2 c = sym (c.before.before.loop.invariant.2 ∙ keys_none _ _ _ (omega arith) ∙ simp (lt-ltb _ _ c.if1.true))
+returns_2 c = sym (c.loop-left.invariant.2 ∙ keys_none _ _ _ (omega arith) ∙ simp (lt-ltb _ _ c.if-at-book.true))
 
-returns_3 : tie.Need-returns-3 invariant_loop decreases_loop
+returns_3 : tie.Need-returns-else-at-book invariant_loop decreases_loop
 unfolding refuse
-returns_3 c = sym (c.before.before.loop.invariant.2 ∙ keys_none _ _ _ (omega arith) ∙ simp (le-ltb _ _ c.if1.false))
+returns_3 c = sym (c.loop-left.invariant.2 ∙ keys_none _ _ _ (omega arith) ∙ simp (le-ltb _ _ c.if-at-book.false))
 
 pub keys_verdict_spec : {M : Type 1} → statement M
 keys_verdict_spec =

@@ -12,6 +12,6 @@ pairs_verdict_spec =
     tie.close
     (tie.spec
     (λ c κs. search rules)
-    (λ c. does_pass _ (sym c.if1.true ∙ c.before.words-pass.ensures))
+    (λ c. does_pass _ (sym c.if-words_pass.true ∙ c.words_pass.ensures))
     (λ c κs. (words_readable, omega arith, omega arith))
     (λ c. search rules))

@@ -7,45 +7,45 @@ use native.Mathlib.Omega.{arith}
 use Rattle.scan.proofs.parts_verdict.Statement.{statement}
 use Rattle.scan.proofs.parts_verdict.Tie as tie
 
-returns : tie.Need-returns
+returns : tie.Need-returns-in_default
 unfolding parts_verdict
 returns c =
     sym
-    (stops _ (sym c.before.before.words-verdict.ensures) c.enum-told2.given.1)
+    (stops _ (sym c.words_verdict-v.ensures) c.enum_told-in_default-1.given.1)
 
-returns_2 : tie.Need-returns-2
+returns_2 : tie.Need-returns-in_default-v
 unfolding parts_verdict
 returns_2 c =
     sym
-    (goes_on _ (sym c.before.before.before.before.before.words-verdict.ensures) c.before.before.before.enum_told.given.1 ∙
-    stops _ (sym c.before.before.words-verdict2.ensures) c.enum-told4.given.1)
+    (goes_on _ (sym c.words_verdict-v.ensures) c.enum_told-1.given.1 ∙
+    stops _ (sym c.words_verdict-v-2.ensures) c.enum_told-in_default-v-1.given.1)
 
-returns_3 : tie.Need-returns-3
+returns_3 : tie.Need-returns-in_default-v-2
 unfolding parts_verdict
 returns_3 c =
     sym
-    (goes_on _ (sym c.before.before.before.before.before.before.before.before.words-verdict.ensures) c.before.before.before.before.before.before.enum_told.given.1 ∙
-    goes_on _ (sym c.before.before.before.before.before.words-verdict2.ensures) c.before.before.before.enum-told3.given.1 ∙
-    stops _ (sym c.before.before.table-verdict.ensures) c.enum-told6.given.1)
+    (goes_on _ (sym c.words_verdict-v.ensures) c.enum_told-1.given.1 ∙
+    goes_on _ (sym c.words_verdict-v-2.ensures) c.enum_told-in-Passed-v-1.given.1 ∙
+    stops _ (sym c.table_verdict-v.ensures) c.enum_told-in_default-v-2-1.given.1)
 
-returns_4 : tie.Need-returns-4
+returns_4 : tie.Need-returns-in_default-v-3
 unfolding parts_verdict
 returns_4 c =
     sym
-    (goes_on _ (sym c.before.before.before.before.before.before.before.before.before.before.before.words-verdict.ensures) c.before.before.before.before.before.before.before.before.before.enum_told.given.1 ∙
-    goes_on _ (sym c.before.before.before.before.before.before.before.before.words-verdict2.ensures) c.before.before.before.before.before.before.enum-told3.given.1 ∙
-    goes_on _ (sym c.before.before.before.before.before.table-verdict.ensures) c.before.before.before.enum-told5.given.1 ∙
-    stops _ (sym c.before.before.table-verdict2.ensures) c.enum-told8.given.1)
+    (goes_on _ (sym c.words_verdict-v.ensures) c.enum_told-1.given.1 ∙
+    goes_on _ (sym c.words_verdict-v-2.ensures) c.enum_told-in-Passed-v-1.given.1 ∙
+    goes_on _ (sym c.table_verdict-v.ensures) c.enum_told-in-Passed-v-2-1.given.1 ∙
+    stops _ (sym c.table_verdict-v-2.ensures) c.enum_told-in_default-v-3-1.given.1)
 
-returns_5 : tie.Need-returns-5
+returns_5 : tie.Need-returns
 unfolding parts_verdict
 returns_5 c =
     sym
-    (goes_on _ (sym c.before.before.before.before.before.before.before.before.before.before.before.before.words-verdict.ensures) c.before.before.before.before.before.before.before.before.before.before.enum_told.given.1 ∙
-    goes_on _ (sym c.before.before.before.before.before.before.before.before.before.words-verdict2.ensures) c.before.before.before.before.before.before.before.enum-told3.given.1 ∙
-    goes_on _ (sym c.before.before.before.before.before.before.table-verdict.ensures) c.before.before.before.before.enum-told5.given.1 ∙
-    goes_on _ (sym c.before.before.before.table-verdict2.ensures) c.before.enum-told7.given.1 ∙
-    sym c.keys-verdict.ensures)
+    (goes_on _ (sym c.words_verdict-v.ensures) c.enum_told-1.given.1 ∙
+    goes_on _ (sym c.words_verdict-v-2.ensures) c.enum_told-in-Passed-v-1.given.1 ∙
+    goes_on _ (sym c.table_verdict-v.ensures) c.enum_told-in-Passed-v-2-1.given.1 ∙
+    goes_on _ (sym c.table_verdict-v-2.ensures) c.enum_told-in-Passed-v-3-1.given.1 ∙
+    sym c.keys_verdict.ensures)
 
 pub parts_verdict_spec : {M : Type 1} → statement M
 parts_verdict_spec =

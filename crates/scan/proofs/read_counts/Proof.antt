@@ -9,15 +9,11 @@ use Rattle.scan.proofs.read_counts.Tie as tie
 returns : tie.Need-returns
 unfolding header_of
 returns c =
-    let p4 = c.before in
-    let p3 = p4.before.before.before in
-    let p2 = p3.before.before.before in
-    let p1 = p2.before.before.before in
-    let s = p1.before.before.args.book.now in
-    let parents = taken s 16 p1.take.ensures refl in
-    let subvolumes = taken s 16 p2.take2.ensures parents.1 in
-    let gens = taken s 16 p3.take3.ensures subvolumes.1 in
-    let alloc = taken s 16 p4.take4.ensures gens.1 in
+    let s = c.args.book.now in
+    let parents = taken s 16 c.take-t.ensures refl in
+    let subvolumes = taken s 16 c.take-t-2.ensures parents.1 in
+    let gens = taken s 16 c.take-t-3.ensures subvolumes.1 in
+    let alloc = taken s 16 c.take-t-4.ensures gens.1 in
     rw (parents.0, subvolumes.0, gens.0, alloc.0)
 
 pub read_counts_spec : {M : Type 1} → statement M

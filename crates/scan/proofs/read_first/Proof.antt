@@ -6,15 +6,15 @@ use native.Mathlib.Omega.{arith}
 use Rattle.scan.proofs.read_first.Statement.{statement}
 use Rattle.scan.proofs.read_first.Tie as tie
 
-returns : tie.Need-returns
+returns : tie.Need-returns-then-t-eq32
 returns c =
-    let a = c.before.before.before.before.args in
-    c.be32.ensures ∙ sym (first_be a.t a.book.now (λ j. (c.before.before.before.shared-slice-known.given j).fits) a.at 4 (omega arith))
+    let a = c.args in
+    c.be32.ensures ∙ sym (first_be a.t a.book.now (λ j. (c.shared_slice_known-1.given j).fits) a.at 4 (omega arith))
 
-returns_2 : tie.Need-returns-2
+returns_2 : tie.Need-returns
 returns_2 c =
-    let a = c.before.before.before.before.args in
-    c.be64.ensures ∙ sym (first_be a.t a.book.now (λ j. (c.before.before.before.shared-slice-known.given j).fits) a.at 8 (omega arith))
+    let a = c.args in
+    c.be64.ensures ∙ sym (first_be a.t a.book.now (λ j. (c.shared_slice_known-1.given j).fits) a.at 8 (omega arith))
 
 pub read_first_spec : {M : Type 1} → statement M
 read_first_spec =

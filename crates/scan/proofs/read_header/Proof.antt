@@ -9,12 +9,10 @@ use Rattle.scan.proofs.read_header.Tie as tie
 returns : tie.Need-returns
 unfolding header_of
 returns c =
-    let p2 = c.before in
-    let p1 = p2.before.before in
-    let s = p1.before.before.before.args.book.now in
-    let device = taken s 64 p1.take.ensures refl in
-    let buckets = taken s 64 p2.take2.ensures device.1 in
-    rw (p1.before.read-start.ensures, c.read-counts.ensures, device.0, buckets.0)
+    let s = c.args.book.now in
+    let device = taken s 64 c.take-device.ensures refl in
+    let buckets = taken s 64 c.take-buckets.ensures device.1 in
+    rw (c.read_start-start.ensures, c.read_counts-counts.ensures, device.0, buckets.0)
 
 pub read_header_spec : {M : Type 1} → statement M
 read_header_spec =

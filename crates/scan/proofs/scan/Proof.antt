@@ -9,27 +9,27 @@ use Rattle.scan.proofs.scan.Statement.{statement}
 use Rattle.scan.proofs.scan.Tie as tie
 
 -- past the tests of the length the verdict is that on the content
-whole : (c : tie.After-content-verdict) → book_verdict c.before.before.before.before.before.before.args.book.now ≡ c.content-verdict.result
+whole : (c : tie.After-content_verdict-v) → book_verdict c.args.book.now ≡ c.content_verdict-v.result
 unfolding book_verdict ◌then◌ refuse
 whole c =
-    let content = rw (c.before.find-places.ensures.0, c.before.before.read-header.ensures) at c.content-verdict.ensures in
-    simp (le-ltb _ _ c.before.before.before.before.if1.false, le-ltb _ _ c.before.before.before.if2.false) (sym content)
+    let content = rw (c.find_places-at.ensures.0, c.read_header-h.ensures) at c.content_verdict-v.ensures in
+    simp (le-ltb _ _ c.if-book-gt1048576.false, le-ltb _ _ c.if-book-lt32.false) (sym content)
 
-returns : tie.Need-returns
+returns : tie.Need-returns-then-book-gt1048576
 unfolding book_verdict ◌then◌ refuse
-returns c = sym (scan_refused c.before.before.args.book.now (simp (lt-ltb _ _ c.if1.true)))
+returns c = sym (scan_refused c.args.book.now (simp (lt-ltb _ _ c.if-book-gt1048576.true)))
 
-returns_2 : tie.Need-returns-2
+returns_2 : tie.Need-returns-then-book-lt32
 unfolding book_verdict ◌then◌ refuse
-returns_2 c = sym (scan_refused c.before.before.before.args.book.now (simp (le-ltb _ _ c.before.if1.false, lt-ltb _ _ c.if2.true)))
+returns_2 c = sym (scan_refused c.args.book.now (simp (le-ltb _ _ c.if-book-gt1048576.false, lt-ltb _ _ c.if-book-lt32.true)))
 
-returns_3 : tie.Need-returns-3
-returns_3 c = sym (scan_refused c.before.before.before.before.before.before.before.before.before.args.book.now (whole c.before.before.before ∙ c.before.v.given.1))
+returns_3 : tie.Need-returns-in-Refused
+returns_3 c = sym (scan_refused c.args.book.now (whole c.before.before.before ∙ c.v-1.given.1))
 
-returns_4 : tie.Need-returns-4
+returns_4 : tie.Need-returns-in-Passed
 returns_4 c =
-    rw (c.before.before.before.find-places.ensures.0, c.before.before.before.before.read-header.ensures)
-    (sym (scan_accepted c.before.before.before.before.before.before.before.before.args.book.now (whole c.before.before ∙ c.enum_told.given.1)))
+    rw (c.find_places-at.ensures.0, c.read_header-h.ensures)
+    (sym (scan_accepted c.args.book.now (whole c.before.before ∙ c.enum_told-1.given.1)))
 
 pub scan_spec : {M : Type 1} → statement M
 scan_spec =
@@ -39,7 +39,7 @@ scan_spec =
     returns_2
     (λ c κs. search rules)
     (λ c κs. search rules)
-    (λ c κs. (omega arith, c.find-places.ensures.1))
+    (λ c κs. (omega arith, c.find_places-at.ensures.1))
     (λ c. search rules)
     (λ c. search rules)
     returns_3

@@ -10,11 +10,11 @@ pub words_pass_spec : {M : Type 1} → statement M
 words_pass_spec =
     tie.close
     (tie.spec
-    (λ c. words_none _ _ c.if1.true)
+    (λ c. words_none _ _ c.if-count-eq0.true)
     (λ c. search rules)
     (λ c. search rules)
-    (λ c. words_past _ _ _ (omega arith) c.if2.true)
+    (λ c. words_past _ _ _ (omega arith) c.if-book-start.true)
     (λ c. search rules)
     (λ c. search rules)
     (λ c κs. search rules)
-    (λ c. c.words-rise.ensures ∙ words_pass _ _ _ (omega arith) c.before.if2.false))
+    (λ c. c.words_rise.ensures ∙ words_pass _ _ _ (omega arith) c.if-book-start.false))

@@ -11,35 +11,32 @@ use native.Mathlib.Omega.{arith}
 use Rattle.scan.proofs.words_rise.Statement.{statement}
 use Rattle.scan.proofs.words_rise.Tie as tie
 
-abbrev invariant_loop : tie.invariant-loop
+abbrev invariant_loop : tie.invariant-loop-left
 invariant_loop book start count at₀ left₀ first₀ at left first =
     (at + 8 * left ≡ start + 8 * count) × (words_rise book count start ≡ words_rise book left at) × (first ≡ word book at)
 
-abbrev decreases_loop : tie.decreases-loop
+abbrev decreases_loop : tie.decreases-loop-left
 decreases_loop book start count at₀ left₀ first₀ at left first = left
 
-loop_holds : tie.Need-loop-init invariant_loop decreases_loop
-loop_holds c = (refl, refl, word_be _ (λ j. (c.before.shared-slice-known.given j).fits) _ c.be32.ensures)
+loop_holds : tie.Need-loop-left-init invariant_loop decreases_loop
+loop_holds c = (refl, refl, word_be _ (λ j. (c.shared_slice_known-1.given j).fits) _ c.be32-first.ensures)
 
-four_rise_requires : tie.Need-four-rise-requires invariant_loop decreases_loop
-four_rise_requires c κs = (omega arith, c.before.loop.invariant.2)
+four_rise_requires : tie.Need-four_rise-requires invariant_loop decreases_loop
+four_rise_requires c κs = (omega arith, c.loop-left.invariant.2)
 
-returns : tie.Need-returns invariant_loop decreases_loop
+returns : tie.Need-returns-then-not-four_rise invariant_loop decreases_loop
 returns c =
-    let r = c.before in
-    sym (r.before.before.loop.invariant.1 ∙ rise_fours _ _ _ (omega arith) ∙ rw (← r.four-rise.ensures, not-true r.four-rise.result c.if1.true))
+    sym (c.loop-left.invariant.1 ∙ rise_fours _ _ _ (omega arith) ∙ rw (← c.four_rise.ensures, not-true c.four_rise.result c.if-not-four_rise.true))
 
-loop_again : tie.Need-loop-preserved invariant_loop decreases_loop
-loop_again c =
-    let r = c.before.before in
-    let l = r.before.before in (
-      omega arith,
-      l.loop.invariant.1 ∙ rise_fours _ _ _ (omega arith) ∙ rw (← r.four-rise.ensures, not-false r.four-rise.result c.before.if1.false),
-      word_be _ (λ j. (l.before.before.shared-slice-known.given j).fits) _ c.be322.ensures,
-    )
+loop_again : tie.Need-loop-left-preserved invariant_loop decreases_loop
+loop_again c = (
+  omega arith,
+  c.loop-left.invariant.1 ∙ rise_fours _ _ _ (omega arith) ∙ rw (← c.four_rise.ensures, not-false c.four_rise.result c.if-not-four_rise.false),
+  word_be _ (λ j. (c.shared_slice_known-1.given j).fits) _ c.be32-first-in-loop-left.ensures,
+)
 
-returns_2 : tie.Need-returns-2 invariant_loop decreases_loop
-returns_2 c = c.each-rise.ensures ∙ sym c.before.before.loop.invariant.1
+returns_2 : tie.Need-returns invariant_loop decreases_loop
+returns_2 c = c.each_rise.ensures ∙ sym c.loop-left.invariant.1
 
 pub words_rise_spec : {M : Type 1} → statement M
 words_rise_spec =

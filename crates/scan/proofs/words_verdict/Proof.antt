@@ -9,6 +9,6 @@ pub words_verdict_spec : {M : Type 1} → statement M
 words_verdict_spec =
     tie.close
     (tie.spec
-    (λ c. sym (table_none _ _ _ _ c.if1.true))
+    (λ c. sym (table_none _ _ _ _ c.if-count-eq0.true))
     (λ c κs. search rules)
     (λ c. search rules))

@@ -10,13 +10,13 @@ use Rattle.walk.proofs.key_offset.Tie as tie
 returns : tie.Need-returns
 unfolding key_head
 returns c =
-    let a = c.before.before.args in
-    c.be64.ensures ∙ head_word a.book.now (λ j. (c.before.shared-slice-known.given j).fits) a.p 16 8
+    let a = c.args in
+    c.be64.ensures ∙ head_word a.book.now (λ j. (c.shared_slice_known-1.given j).fits) a.p 16 8
 
 pub key_offset_spec : {M : Type 1} → statement M
 key_offset_spec =
     tie.close
     (tie.spec
-    (λ c. omega (arith, at_end c.before.requires, c.before.requires.inside, c.before.requires.small))
-    (λ c κs. omega (arith, at_end c.before.requires, c.before.requires.inside, c.before.requires.small))
+    (λ c. omega (arith, at_end c.requires, c.requires.inside, c.requires.small))
+    (λ c κs. omega (arith, at_end c.requires, c.requires.inside, c.requires.small))
     returns)

@@ -9,7 +9,7 @@ pub key_word_spec : {M : Type 1} → statement M
 key_word_spec =
     tie.close
     (tie.spec
-    (λ c. omega (arith, at_end c.before.requires.0, c.before.requires.0.inside, c.before.requires.0.small))
-    (λ c. omega (arith, at_end c.before.requires.0, c.before.requires.0.inside, c.before.requires.0.small))
-    (λ c κs. omega (arith, at_end c.before.requires.0, c.before.requires.0.inside, c.before.requires.0.small))
-    (λ c. c.le32.ensures ∙ at_word c.before.before.requires.0 c.before.before.args.i 4 c.before.before.requires.1))
+    (λ c. omega (arith, at_end c.requires.0, c.requires.0.inside, c.requires.0.small))
+    (λ c. omega (arith, at_end c.requires.0, c.requires.0.inside, c.requires.0.small))
+    (λ c κs. omega (arith, at_end c.requires.0, c.requires.0.inside, c.requires.0.small))
+    (λ c. c.le32.ensures ∙ at_word c.requires.0 c.args.i 4 c.requires.1))
