@@ -32,14 +32,14 @@ check_entry_requires c κs = ((c.requires.0, omega arith, omega arith, omega ari
 passed : (c : tie.After-struct_known-1 invariant_loop decreases_loop) →
     let l = c in let a = l.args in let at = l.loop-left.at in
     (entry_verdict a.t a.book.now a.start at ≡ Passed) ×
-    ((entry_at a.t a.book.now at).first ≡ c.e-in-First-1.given.0.0)
-passed c = entry_passed _ _ (sym c.check_entry-e.ensures ∙ c.e-in-First-1.given.1)
+    ((entry_at a.t a.book.now at).first ≡ c.in-First.first)
+passed c = entry_passed _ _ (sym c.check_entry-e.ensures ∙ c.in-First.is)
 
 returns : tie.Need-returns-in-Refused invariant_loop decreases_loop
 returns c =
     sym
     (c.loop-left.invariant.2 ∙ table_step _ _ _ _ _ (omega arith) ∙
-    stops _ (entry_refused _ _ (sym c.check_entry-e.ensures ∙ c.e-1.given.1)) refl)
+    stops _ (entry_refused _ _ (sym c.check_entry-e.ensures ∙ c.in-Refused.is)) refl)
 
 loop_again : tie.Need-loop-left-preserved invariant_loop decreases_loop
 loop_again c =

@@ -23,16 +23,16 @@ decreases_loop book trees count start left₀ at₀ left at = left
 
 -- a key that was read: its verdict, and where it ends
 passed : (c : tie.After-struct_known-1 invariant_loop decreases_loop) → let s = c.args.book.now in let at = c.loop-left.at in
-    (key_verdict c.args.trees s at ≡ Passed) × (at + 28 + c.k-in-Key-1.given.0.0.len ≡ key_end s at)
+    (key_verdict c.args.trees s at ≡ Passed) × (at + 28 + c.in-Key.front.len ≡ key_end s at)
 passed c =
-    let got = read_key _ _ (sym c.read_key-k.ensures ∙ c.k-in-Key-1.given.1) in
+    let got = read_key _ _ (sym c.read_key-k.ensures ∙ c.in-Key.is) in
     (got.0, front_end _ _ (sym got.1))
 
 returns : tie.Need-returns-in-Refused invariant_loop decreases_loop
 returns c =
     sym
     (c.loop-left.invariant.2 ∙ keys_step _ _ _ _ (omega arith) ∙
-    stops _ (read_refused _ _ (sym c.read_key-k.ensures ∙ c.k-1.given.1)) refl)
+    stops _ (read_refused _ _ (sym c.read_key-k.ensures ∙ c.in-Refused.is)) refl)
 
 loop_again : tie.Need-loop-left-preserved invariant_loop decreases_loop
 loop_again c =

@@ -11,40 +11,40 @@ returns : tie.Need-returns-in_default
 unfolding parts_verdict
 returns c =
     sym
-    (stops _ (sym c.words_verdict-v.ensures) c.enum_told-in_default-1.given.1)
+    (stops _ (sym c.words_verdict-v.ensures) c.in_default.is)
 
 returns_2 : tie.Need-returns-in_default-v
 unfolding parts_verdict
 returns_2 c =
     sym
-    (goes_on _ (sym c.words_verdict-v.ensures) c.enum_told-1.given.1 ∙
-    stops _ (sym c.words_verdict-v-2.ensures) c.enum_told-in_default-v-1.given.1)
+    (goes_on _ (sym c.words_verdict-v.ensures) c.in-Passed.is ∙
+    stops _ (sym c.words_verdict-v-2.ensures) c.in_default-v.is)
 
 returns_3 : tie.Need-returns-in_default-v-2
 unfolding parts_verdict
 returns_3 c =
     sym
-    (goes_on _ (sym c.words_verdict-v.ensures) c.enum_told-1.given.1 ∙
-    goes_on _ (sym c.words_verdict-v-2.ensures) c.enum_told-in-Passed-v-1.given.1 ∙
-    stops _ (sym c.table_verdict-v.ensures) c.enum_told-in_default-v-2-1.given.1)
+    (goes_on _ (sym c.words_verdict-v.ensures) c.in-Passed.is ∙
+    goes_on _ (sym c.words_verdict-v-2.ensures) c.in-Passed-v.is ∙
+    stops _ (sym c.table_verdict-v.ensures) c.in_default-v-2.is)
 
 returns_4 : tie.Need-returns-in_default-v-3
 unfolding parts_verdict
 returns_4 c =
     sym
-    (goes_on _ (sym c.words_verdict-v.ensures) c.enum_told-1.given.1 ∙
-    goes_on _ (sym c.words_verdict-v-2.ensures) c.enum_told-in-Passed-v-1.given.1 ∙
-    goes_on _ (sym c.table_verdict-v.ensures) c.enum_told-in-Passed-v-2-1.given.1 ∙
-    stops _ (sym c.table_verdict-v-2.ensures) c.enum_told-in_default-v-3-1.given.1)
+    (goes_on _ (sym c.words_verdict-v.ensures) c.in-Passed.is ∙
+    goes_on _ (sym c.words_verdict-v-2.ensures) c.in-Passed-v.is ∙
+    goes_on _ (sym c.table_verdict-v.ensures) c.in-Passed-v-2.is ∙
+    stops _ (sym c.table_verdict-v-2.ensures) c.in_default-v-3.is)
 
 returns_5 : tie.Need-returns
 unfolding parts_verdict
 returns_5 c =
     sym
-    (goes_on _ (sym c.words_verdict-v.ensures) c.enum_told-1.given.1 ∙
-    goes_on _ (sym c.words_verdict-v-2.ensures) c.enum_told-in-Passed-v-1.given.1 ∙
-    goes_on _ (sym c.table_verdict-v.ensures) c.enum_told-in-Passed-v-2-1.given.1 ∙
-    goes_on _ (sym c.table_verdict-v-2.ensures) c.enum_told-in-Passed-v-3-1.given.1 ∙
+    (goes_on _ (sym c.words_verdict-v.ensures) c.in-Passed.is ∙
+    goes_on _ (sym c.words_verdict-v-2.ensures) c.in-Passed-v.is ∙
+    goes_on _ (sym c.table_verdict-v.ensures) c.in-Passed-v-2.is ∙
+    goes_on _ (sym c.table_verdict-v-2.ensures) c.in-Passed-v-3.is ∙
     sym c.keys_verdict.ensures)
 
 pub parts_verdict_spec : {M : Type 1} → statement M

@@ -24,12 +24,12 @@ unfolding book_verdict ◌then◌ refuse
 returns_2 c = sym (scan_refused c.args.book.now (simp (le-ltb _ _ c.if-book-gt1048576.false, lt-ltb _ _ c.if-book-lt32.true)))
 
 returns_3 : tie.Need-returns-in-Refused
-returns_3 c = sym (scan_refused c.args.book.now (whole c.before.before.before ∙ c.v-1.given.1))
+returns_3 c = sym (scan_refused c.args.book.now (whole c.before ∙ c.in-Refused.is))
 
 returns_4 : tie.Need-returns-in-Passed
 returns_4 c =
     rw (c.find_places-at.ensures.0, c.read_header-h.ensures)
-    (sym (scan_accepted c.args.book.now (whole c.before.before ∙ c.enum_told-1.given.1)))
+    (sym (scan_accepted c.args.book.now (whole c.before ∙ c.in-Passed.is)))
 
 pub scan_spec : {M : Type 1} → statement M
 scan_spec =

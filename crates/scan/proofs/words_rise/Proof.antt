@@ -26,12 +26,12 @@ four_rise_requires c κs = (omega arith, c.loop-left.invariant.2)
 
 returns : tie.Need-returns-then-not-four_rise invariant_loop decreases_loop
 returns c =
-    sym (c.loop-left.invariant.1 ∙ rise_fours _ _ _ (omega arith) ∙ rw (← c.four_rise.ensures, not-true c.four_rise.result c.if-not-four_rise.true))
+    sym (c.loop-left.invariant.1 ∙ rise_fours _ _ _ (omega arith) ∙ rw (← c.four_rise.ensures, c.if-not-four_rise.true))
 
 loop_again : tie.Need-loop-left-preserved invariant_loop decreases_loop
 loop_again c = (
   omega arith,
-  c.loop-left.invariant.1 ∙ rise_fours _ _ _ (omega arith) ∙ rw (← c.four_rise.ensures, not-false c.four_rise.result c.if-not-four_rise.false),
+  c.loop-left.invariant.1 ∙ rise_fours _ _ _ (omega arith) ∙ rw (← c.four_rise.ensures, c.if-not-four_rise.false),
   word_be _ (λ j. (c.shared_slice_known-1.given j).fits) _ c.be32-first-in-loop-left.ensures,
 )
 
