@@ -9,24 +9,23 @@ use Rattle.drawn.proofs.find_snapshot.Statement.{statement}
 use Rattle.drawn.proofs.find_snapshot.Tie as tie
 
 -- the bound is among the pairs
-inside : (c : tie.After-lower-bound-near) → c.lower-bound-near.result ≤ c.before.before.args.n
-inside c = let a = c.before.before.args in omega (arith, c.lower-bound-near.ensures, pairs_bound (pair a.id (4 * 2 ^ 32)) a.w.now a.n)
+inside : (c : tie.After-lower_bound_near-at) → c.lower_bound_near-at.result ≤ c.args.n
+inside c = let a = c.args in omega (arith, c.lower_bound_near-at.ensures, pairs_bound (pair a.id (4 * 2 ^ 32)) a.w.now a.n)
 
-is_alone_requires : tie.Need-is-alone-requires
-is_alone_requires c κs = let t = c.before.before in (t.requires.0, inside c, t.requires.3)
+is_alone_requires : tie.Need-is_alone-requires
+is_alone_requires c κs = let t = c in (t.requires.0, inside c, t.requires.3)
 
-returns : tie.Need-returns
+returns : tie.Need-returns-then-is_alone
 returns c =
     let b = c.before.before.before in
-    let t = b.before.before in
-    let found = c.before.before.is-alone.ensures c.before.if1.true in (
-      alone_found t.args.class t.args.id t.requires.2 t.requires.3 t.args.w.now t.args.n b.lower-bound-near.result t.requires.1
-          b.lower-bound-near.ensures (inside b) found (λ k. (c.shared-slice-known2.given k).fits),
+    let found = c.is_alone.ensures c.if-is_alone.true in (
+      alone_found b.args.class b.args.id b.requires.2 b.requires.3 b.args.w.now b.args.n b.lower_bound_near-at.result b.requires.1
+          b.lower_bound_near-at.ensures (inside b) found (λ k. (c.shared_slice_known-then-is_alone-1.given k).fits),
       inside b,
     )
 
-returns_2 : tie.Need-returns-2
-returns_2 c = (c.find-each.ensures, inside c.before.before.before)
+returns_2 : tie.Need-returns
+returns_2 c = (c.find_each-place.ensures, inside c.before.before.before)
 
 pub find_snapshot_spec : {M : Type 1} → statement M
 find_snapshot_spec =
@@ -35,9 +34,9 @@ find_snapshot_spec =
     (λ c κs. search rules)
     is_alone_requires
     (λ c. omega (arith, inside c.before.before))
-    (λ c. omega (arith, (c.before.is-alone.ensures c.if1.true).some))
+    (λ c. omega (arith, (c.is_alone.ensures c.if-is_alone.true).some))
     (λ c. omega (arith, inside c.before.before))
-    (λ c. omega (arith, inside c.before.before.before, (c.before.before.is-alone.ensures c.before.if1.true).some))
+    (λ c. omega (arith, inside c.before.before.before, (c.is_alone.ensures c.if-is_alone.true).some))
     returns
-    (λ c κs. let t = c.before.before.before.before in (t.requires.0, t.requires.1, t.requires.2, t.requires.3, inside c.before.before))
+    (λ c κs. let t = c in (t.requires.0, t.requires.1, t.requires.2, t.requires.3, inside c.before.before))
     returns_2)

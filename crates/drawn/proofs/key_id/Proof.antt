@@ -8,7 +8,7 @@ use Rattle.drawn.proofs.key_id.Tie as tie
 
 returns : tie.Need-returns
 unfolding id_of
-returns c = ap (λ (x : ℕ). x % 2 ^ 32) c.key-offset.ensures
+returns c = ap (λ (x : ℕ). x % 2 ^ 32) c.key_offset-offset.ensures
 
 pub key_id_spec : {M : Type 1} → statement M
 key_id_spec = tie.close (tie.spec

@@ -9,24 +9,21 @@ use borrow.Author.Rules.{rules}
 use Rattle.drawn.proofs.put_link.Statement.{statement}
 use Rattle.drawn.proofs.put_link.Tie as tie
 
-returns : tie.Need-returns
+returns : tie.Need-returns-then-f
 returns c =
-    let t = c.before.before.before.before.before.before.before.before.before.before in
-    let yes = pair_tree t.requires.0 c.before.before.before.before.if1.true in
-    (c.before.before.put-place.ensures ∙ ap (λ (l : List ℕ). pairs_of t.args.work.now t.args.n ++ l) yes, omega arith)
+    let yes = pair_tree c.requires.0 c.if-f.true in
+    (c.put_place.ensures ∙ ap (λ (l : List ℕ). pairs_of c.args.work.now c.args.n ++ l) yes, omega arith)
 
-returns_2 : tie.Need-returns-2
+returns_2 : tie.Need-returns-then-has_parent
 returns_2 c =
-    let t = c.before.before.before.before.before.before.before.before.before.before.before.before.before in
-    let snapshot = sym c.before.before.before.before.before.before.has-parent.ensures ∙ c.before.before.before.before.before.if2.true in
-    let yes = pair_snapshot t.requires.0 c.before.before.before.before.before.before.before.if1.false snapshot c.before.before.before.before.class_of.ensures.0 in
-    (c.before.before.put-place2.ensures ∙ ap (λ (l : List ℕ). pairs_of t.args.work.now t.args.n ++ l) yes, omega arith)
+    let snapshot = sym c.has_parent.ensures ∙ c.if-has_parent.true in
+    let yes = pair_snapshot c.requires.0 c.if-f.false snapshot c.class_of-class.ensures.0 in
+    (c.put_place-then-has_parent.ensures ∙ ap (λ (l : List ℕ). pairs_of c.args.work.now c.args.n ++ l) yes, omega arith)
 
-returns_3 : tie.Need-returns-3
+returns_3 : tie.Need-returns
 returns_3 c =
-    let t = c.before.before.before.before.before.before.before.before in
-    let other = sym c.before.has-parent.ensures ∙ c.if2.false in
-    (rw (pair_none t.requires.0 c.before.before.if1.false other, append-nil (pairs_of t.args.work.now t.args.n)), omega arith)
+    let other = sym c.has_parent.ensures ∙ c.if-has_parent.false in
+    (rw (pair_none c.requires.0 c.if-f.false other, append-nil (pairs_of c.args.work.now c.args.n)), omega arith)
 
 pub put_link_spec : {M : Type 1} → statement M
 put_link_spec =

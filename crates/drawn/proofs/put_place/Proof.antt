@@ -8,7 +8,7 @@ use Rattle.drawn.proofs.put_place.Tie as tie
 
 returns : tie.Need-returns
 unfolding place_pair
-returns c = rw (← c.before.before.before.before.key-id.ensures) c.before.before.put-pair.ensures.0
+returns c = rw (← c.key_id-id.ensures) c.put_pair.ensures.0
 
 pub put_place_spec : {M : Type 1} → statement M
 put_place_spec =
@@ -17,7 +17,7 @@ put_place_spec =
     (λ c κs. search rules)
     (λ c. search rules)
     (λ c. search rules)
-    (λ c. let k = c.before.before.before.before.requires.0 in omega (arith, at_end k, k.inside, k.small, c.before.before.before.before.requires.1))
+    (λ c. let k = c.requires.0 in omega (arith, at_end k, k.inside, k.small, c.requires.1))
     (λ c κs. search rules)
     (λ c. search rules)
     returns)
