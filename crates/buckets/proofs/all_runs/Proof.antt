@@ -4,8 +4,8 @@ use borrow.Author.Rules.{rules}
 use Rattle.buckets.proofs.all_runs.Statement.{statement}
 use Rattle.buckets.proofs.all_runs.Tie as tie
 
-take_runs_requires : tie.Need-take-runs-requires
-take_runs_requires c κs = let p = c.before.before.before.before.before.before.before.before.before.before.requires in (p.0, marks_few _ _ _ _ (search rules), p.1)
+take_runs_requires : tie.Need-take_runs-requires
+take_runs_requires c κs = let p = c.requires in (p.0, marks_few _ _ _ _ (search rules), p.1)
 
 pub all_runs_spec : {M : Type 1} → statement M
 all_runs_spec =

@@ -7,9 +7,9 @@ use borrow.Author.Rules.{rules}
 use Rattle.buckets.proofs.alloc_range.Statement.{statement}
 use Rattle.buckets.proofs.alloc_range.Tie as tie
 
-returns : tie.Need-returns
+returns : tie.Need-returns-then-count-eq0
 unfolding range_of table_from lower_bound
-returns c = rw (c.if1.true, add-zero c.before.before.args.start)
+returns c = rw (c.if-count-eq0.true, add-zero c.args.start)
 
 pub alloc_range_spec : {M : Type 1} → statement M
 alloc_range_spec =

@@ -9,7 +9,7 @@ use Rattle.buckets.proofs.find_range.Tie as tie
 
 returns : tie.Need-returns
 unfolding range_of
-returns c = rw (c.before.alloc-near.ensures.0, c.alloc-near2.ensures.0)
+returns c = rw (c.alloc_near-low.ensures.0, c.alloc_near-high.ensures.0)
 
 pub find_range_spec : {M : Type 1} → statement M
 find_range_spec =
@@ -17,7 +17,7 @@ find_range_spec =
     (tie.spec
     (λ c κs. search rules)
     (λ c κs. search rules)
-    (λ c. omega (arith, c.before.alloc-near.ensures.1, c.before.before.before.requires.0.inside))
-    (λ c. omega (arith, c.before.alloc-near.ensures.1, c.before.before.before.requires.0.inside))
-    (λ c. let a = c.before.before.before.args in omega (arith, c.before.alloc-near.ensures.0, c.alloc-near2.ensures.0, bound_grows c.before.before.before.requires.2 (alloc_from a.book.now a.count a.start)))
+    (λ c. omega (arith, c.alloc_near-low.ensures.1, c.requires.0.inside))
+    (λ c. omega (arith, c.alloc_near-low.ensures.1, c.requires.0.inside))
+    (λ c. let a = c.args in omega (arith, c.alloc_near-low.ensures.0, c.alloc_near-high.ensures.0, bound_grows c.requires.2 (alloc_from a.book.now a.count a.start)))
     returns)

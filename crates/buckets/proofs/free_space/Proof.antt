@@ -10,21 +10,21 @@ use native.Mathlib.Omega.{arith}
 use Rattle.buckets.proofs.free_space.Statement.{statement}
 use Rattle.buckets.proofs.free_space.Tie as tie
 
-show_gaps_requires : tie.Need-show-gaps-requires
+show_gaps_requires : tie.Need-show_gaps-requires
 show_gaps_requires c κs =
-    let pre = c.before.before.before.before.before.before.before.before.before.before.before.before.before.before.before.before.before.before.before.before.before.before.requires in
-    let runs = c.before.before.before.before.before.before.before.before.before.before.before.before.before.before.all_runs.ensures in
-    let fair = fair_sorted c.before.before.before.before.before.before.before.before.before.before.before.before.before.before.before.before.before.before.before.before.before.before.args.book.now (parts pre.0).header _ _ (c.before.before.before.before.before.before.sort-pairs.ensures.0 ∙ ap sort runs.1.0) in
+    let pre = c.requires in
+    let runs = c.all_runs-runs.ensures in
+    let fair = fair_sorted c.args.book.now (parts pre.0).header _ _ (c.sort_pairs.ensures.0 ∙ ap sort runs.1.0) in
     (pre.0, runs.1.1.1, omega (arith, runs.1.1.1, pre.1), fair)
 
 returns : tie.Need-returns
 returns c =
-    let runs = c.before.before.before.before.before.before.before.before.before.before.before.before.before.before.before.before.before.before.before.all_runs in
-    let rest = c.before.before.before.before.before.before.before.before.start_of_lem in
-    let gaps = c.before.before.before.before.show-gaps in
-    let sorted = c.before.before.before.before.before.before.before.before.before.before.before.sort-pairs.ensures.0 ∙ ap sort runs.ensures.1.0 in
+    let runs = c.all_runs-runs in
+    let rest = c.start_of-rest in
+    let gaps = c.show_gaps in
+    let sorted = c.sort_pairs.ensures.0 ∙ ap sort runs.ensures.1.0 in
     let found = more_lent rest.result runs.result.found gaps.result rest.ensures runs.ensures.0 gaps.ensures.0 in
-    (rw (← free_all c.before.before.before.before.before.before.before.before.before.before.before.before.before.before.before.before.before.before.before.before.before.before.before.before.before.before.before.requires.0 sorted) found, omega (arith, runs.ensures.1.1.0, gaps.ensures.1))
+    (rw (← free_all c.requires.0 sorted) found, omega (arith, runs.ensures.1.1.0, gaps.ensures.1))
 
 pub free_space_spec : {M : Type 1} → statement M
 free_space_spec =
@@ -37,7 +37,7 @@ free_space_spec =
     (λ c. search rules)
     (λ c. search rules)
     show_gaps_requires
-    (λ c. omega (arith, c.before.before.before.before.before.before.before.before.before.before.before.before.before.before.before.before.before.before.before.all_runs.ensures.1.1.0, c.before.before.before.before.show-gaps.ensures.1, c.before.before.before.before.before.before.before.before.before.before.before.before.before.before.before.before.before.before.before.before.before.before.before.before.before.before.before))
+    (λ c. omega (arith, c.all_runs-runs.ensures.1.1.0, c.show_gaps.ensures.1, c.before.before.before.before.before.before.before.before.before.before.before.before.before.before.before.before.before.before.before.before.before.before.before.before.before.before.before))
     (λ c. search rules)
     (λ c. search rules)
     (λ c. search rules)

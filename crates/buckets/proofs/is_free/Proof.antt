@@ -4,13 +4,13 @@ use borrow.Author.Rules.{rules}
 use Rattle.buckets.proofs.is_free.Statement.{statement}
 use Rattle.buckets.proofs.is_free.Tie as tie
 
-returns : tie.Need-returns
+returns : tie.Need-returns-in-Is
 unfolding is_free_of
-returns c = rw c.before.t.given.1
+returns c = rw c.in-Is.is
 
-returns_2 : tie.Need-returns-2
+returns_2 : tie.Need-returns-in-Absent
 unfolding is_free_of
-returns_2 c = rw c.enum_told.given.1
+returns_2 c = rw c.in-Absent.is
 
 pub is_free_spec : {M : Type 1} → statement M
 is_free_spec =

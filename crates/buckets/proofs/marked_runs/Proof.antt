@@ -5,8 +5,8 @@ use native.Mathlib.Omega.{arith}
 use Rattle.buckets.proofs.marked_runs.Statement.{statement}
 use Rattle.buckets.proofs.marked_runs.Tie as tie
 
-put_marks_requires : tie.Need-put-marks-requires
-put_marks_requires c κs = let o = parts c.before.before.before.before.before.before.requires.0 in (o.small, o.alloc_rise.inside, omega arith, search rules)
+put_marks_requires : tie.Need-put_marks-requires
+put_marks_requires c κs = let o = parts c.requires.0 in (o.small, o.alloc_rise.inside, omega arith, search rules)
 
 pub marked_runs_spec : {M : Type 1} → statement M
 marked_runs_spec =

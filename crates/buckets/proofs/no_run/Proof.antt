@@ -11,8 +11,8 @@ use Rattle.buckets.proofs.no_run.Tie as tie
 returns : tie.Need-returns
 unfolding no_run
 returns c =
-    let a = c.before.before.before.before.before.args in
-    rw c.before.before.before.before.run-end.ensures
+    let a = c.args in
+    rw c.run_end-end.ensures
     (by_tests a.h (bkey a.k [])
     (λ x y z. simp (or-true, x, y, z)) (λ x y z. simp (or-true, x, y, z)) (λ x y z. simp (or-true, x, y, z))
     (λ x y z. simp (or-true, x, y, z)) (λ x y z. simp (or-true, x, y, z)) (λ x y z. simp (or-true, x, y, z))

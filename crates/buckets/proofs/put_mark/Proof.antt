@@ -5,7 +5,7 @@ use borrow.Author.Rules.{rules}
 use Rattle.buckets.proofs.put_mark.Statement.{statement}
 use Rattle.buckets.proofs.put_mark.Tie as tie
 
-slice_write_marks_2 : tie.Need-slice-write-marks-2
+slice_write_marks_2 : tie.Need-bounds-marks-at-2
 slice_write_marks_2 c = simp length-set (omega arith)
 
 pub put_mark_spec : {M : Type 1} → statement M

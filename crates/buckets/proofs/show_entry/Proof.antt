@@ -8,7 +8,7 @@ use Rattle.buckets.proofs.show_entry.Tie as tie
 
 returns : tie.Need-returns
 unfolding entry_findings
-returns c = (rw c.before.before.before.before.before.before.before.before.before.before.before.before.before.before.before.is_free.ensures at (added_more c.before.before.before.before.before.before.before.before.before.before.before.emit-if.ensures.0 c.before.before.before.before.emit-if2.ensures.0), omega arith)
+returns c = (rw c.is_free-free.ensures at (added_more c.emit_if-m.ensures.0 c.emit_if.ensures.0), omega arith)
 
 pub show_entry_spec : {M : Type 1} → statement M
 show_entry_spec =

@@ -8,9 +8,9 @@ use Rattle.buckets.specs.Steps.{gap_of}
 use Rattle.buckets.proofs.show_gap.Statement.{statement}
 use Rattle.buckets.proofs.show_gap.Tie as tie
 
-returns_2 : tie.Need-returns-2
+returns_2 : tie.Need-returns
 unfolding gap_of
-returns_2 c = (added_not _ refl (le-ltb c.before.before.before.before.args.from c.before.before.before.before.args.to c.if1.false), omega arith)
+returns_2 c = (added_not _ refl (le-ltb c.args.from c.args.to c.if-from-to.false), omega arith)
 
 pub show_gap_spec : {M : Type 1} → statement M
 show_gap_spec =

@@ -15,31 +15,28 @@ use native.Mathlib.Omega.{arith}
 use Rattle.buckets.proofs.show_hole.Statement.{statement}
 use Rattle.buckets.proofs.show_hole.Tie as tie
 
-alloc_range_requires : tie.Need-alloc-range-requires
-alloc_range_requires c κs = let start = c.before.before.before.before in ((parts start.requires.0).alloc_rise, (parts start.requires.0).small, le_of_lt start.requires.2, start.requires.3)
+alloc_range_requires : tie.Need-alloc_range-range-requires
+alloc_range_requires c κs = let start = c in ((parts start.requires.0).alloc_rise, (parts start.requires.0).small, le_of_lt start.requires.2, start.requires.3)
 
-show_entries_requires : tie.Need-show-entries-requires
+show_entries_requires : tie.Need-show_entries-requires
 show_entries_requires c κs =
-    let start = c.before.before.before.before.before.before.before.before in
-    let range = c.before.before.before.alloc-range.ensures in
-    ((parts start.requires.0).small, range_inside start.requires.0 (le_of_lt start.requires.2) range, range_below start.requires.0 (le_of_lt start.requires.2) range)
+    let range = c.alloc_range-range.ensures in
+    ((parts c.requires.0).small, range_inside c.requires.0 (le_of_lt c.requires.2) range, range_below c.requires.0 (le_of_lt c.requires.2) range)
 
-add_found : tie.Need-overflow-add-found
+add_found : tie.Need-overflow_add-found
 add_found c =
-    let start = c.before.before.before.before.before.before.before.before.before.before.before.before.before in
-    omega (arith, c.before.before.before.before.show-entries.ensures.1, start.requires.1, (parts start.requires.0).small, range_inside start.requires.0 (le_of_lt start.requires.2) c.before.before.before.before.before.before.before.before.alloc-range.ensures)
+    omega (arith, c.show_entries.ensures.1, c.requires.1, (parts c.requires.0).small, range_inside c.requires.0 (le_of_lt c.requires.2) c.alloc_range-range.ensures)
 
 returns : tie.Need-returns
 unfolding gap_of
 returns c =
-    let start = c.before.before.before.before.before.before.before.before.before.before.before.before.before in
-    let a = start.args in
-    let order = le_of_lt start.requires.2 in
-    let range = c.before.before.before.before.before.before.before.before.alloc-range.ensures in
-    let rest = c.before.before.before.before.before.before.before.start_of_lem in
-    let same = ap (λ (xs : List (ℕ × Option ℕ)). gap_findings a.from xs a.to) (sym (range_entries start.requires.0 order range)) in (
-      added_only refl (lt-ltb a.from a.to start.requires.2) (added_as same (lent a.out.now rest.result a.n rest.ensures c.before.before.before.before.show-entries.ensures.0)),
-      omega (arith, c.before.before.before.before.show-entries.ensures.1, range_count start.requires.0 order range, range_few start.requires.0 order range),
+    let a = c.args in
+    let order = le_of_lt c.requires.2 in
+    let range = c.alloc_range-range.ensures in
+    let rest = c.start_of-rest in
+    let same = ap (λ (xs : List (ℕ × Option ℕ)). gap_findings a.from xs a.to) (sym (range_entries c.requires.0 order range)) in (
+      added_only refl (lt-ltb a.from a.to c.requires.2) (added_as same (lent a.out.now rest.result a.n rest.ensures c.show_entries.ensures.0)),
+      omega (arith, c.show_entries.ensures.1, range_count c.requires.0 order range, range_few c.requires.0 order range),
     )
 
 pub show_hole_spec : {M : Type 1} → statement M

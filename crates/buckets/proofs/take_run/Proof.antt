@@ -15,32 +15,32 @@ use native.Mathlib.Omega.{arith}
 use Rattle.buckets.proofs.take_run.Statement.{statement}
 use Rattle.buckets.proofs.take_run.Tie as tie
 
-returns : tie.Need-returns
+returns : tie.Need-returns-then-f
 returns c =
-    let a = c.before.before.before.before.before.before.before.before.before.before.before.before.before.before.before.before.before.before.before.before.args in
+    let a = c.args in
     let s = a.book.now in
-    let pre = c.before.before.before.before.before.before.before.before.before.before.before.before.before.before.before.before.before.before.before.before.requires in
+    let pre = c.requires in
     let test = at_is pre.2 11 25 in
-    let taken = c.before.before.before.before.before.before.before.before.before.before.before.before.if1.true in
-    let head = c.before.before.before.before.before.before.before.before.before.before.before.key-head in
-    let shown = added_as (ap (λ (h : KeyHead). run_findings (book_of s) (key_of s h)) head.ensures) c.before.before.before.before.before.before.before.before.show-run.ensures.0 in
+    let taken = c.if-f.true in
+    let head = c.key_head-k in
+    let shown = added_as (ap (λ (h : KeyHead). run_findings (book_of s) (key_of s h)) head.ensures) c.show_run-shown.ensures.0 in
     let pair = run_pair_lem s (parts pre.0).header head.result a.p head.ensures (sym test ∙ taken) in (
       added_only test taken shown,
-      (c.before.before.put-run.ensures.0 ∙ ap (λ (l : List ℕ). pairs_of a.work.now a.c.put ++ l) pair, (c.before.before.before.before.before.before.before.before.show-run.ensures.1.0, c.before.before.put-run.ensures.1, c.before.before.before.before.before.before.before.before.show-run.ensures.1.1)),
+      (c.put_run-put.ensures.0 ∙ ap (λ (l : List ℕ). pairs_of a.work.now a.c.put ++ l) pair, (c.show_run-shown.ensures.1.0, c.put_run-put.ensures.1, c.show_run-shown.ensures.1.1)),
     )
 
-returns_2 : tie.Need-returns-2
+returns_2 : tie.Need-returns
 returns_2 c =
-    let a = c.before.before.before.before.before.before.before.before.args in
-    let test = at_is c.before.before.before.before.before.before.before.before.requires.2 11 25 in
-    let none = no_pair (book_of a.book.now) a.p _ (sym test ∙ c.if1.false) in
-    (added_not _ test c.if1.false, (rw (none, append-nil (pairs_of a.work.now a.c.put)), (omega arith, omega arith, omega arith)))
+    let a = c.args in
+    let test = at_is c.requires.2 11 25 in
+    let none = no_pair (book_of a.book.now) a.p _ (sym test ∙ c.if-f.false) in
+    (added_not _ test c.if-f.false, (rw (none, append-nil (pairs_of a.work.now a.c.put)), (omega arith, omega arith, omega arith)))
 
 pub take_run_spec : {M : Type 1} → statement M
 take_run_spec =
     tie.close
     (tie.spec
-    (λ c κs. (c.before.before.before.before.before.before.before.before.requires.2.small, omega (arith, at_end c.before.before.before.before.before.before.before.before.requires.2, c.before.before.before.before.before.before.before.before.requires.2.inside)))
+    (λ c κs. (c.requires.2.small, omega (arith, at_end c.requires.2, c.requires.2.inside)))
     (λ c κs. search rules)
     (λ c κs. search rules)
     (λ c. search rules)

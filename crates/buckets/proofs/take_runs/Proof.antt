@@ -15,27 +15,27 @@ use native.Mathlib.Omega.{arith}
 use Rattle.buckets.proofs.take_runs.Statement.{statement}
 use Rattle.buckets.proofs.take_runs.Tie as tie
 
-abbrev invariant_loop : tie.invariant-loop
+abbrev invariant_loop : tie.invariant-loop-left
 invariant_loop book h at marks out₀ counts₀ work₀ c₀ left₀ p₀ out counts work c left p =
     (c.found + left ≤ h.keys) × Gathered (run_pair (book_of book)) book left₀ p₀ work c.put left p × (length work ≡ length work₀)
     × Walk (λ _ k. only (is_run k) (run_findings (book_of book) k)) (book_of book).keys (sink out₀ counts₀) 0 (keys_from book left p) c.found (sink out counts)
     × (c.near ≤ h.alloc)
 
-abbrev decreases_loop : tie.decreases-loop
+abbrev decreases_loop : tie.decreases-loop-left
 decreases_loop book h at marks out₀ counts₀ work₀ c₀ left₀ p₀ out counts work c left p = left
 
-loop_holds : tie.Need-loop-init invariant_loop decreases_loop
+loop_holds : tie.Need-loop-left-init invariant_loop decreases_loop
 loop_holds c =
-    let o = parts c.before.before.before.before.before.requires.0 in
+    let o = parts c.requires.0 in
     (omega arith, none_yet o.keys_fit, refl, rw o.keys first, omega arith)
 
-loop_again : tie.Need-loop-preserved invariant_loop decreases_loop
+loop_again : tie.Need-loop-left-preserved invariant_loop decreases_loop
 loop_again c =
-    let l = c.before.before.before.before.before.before.before.before.before.before.before.before.before.loop.invariant in
-    let left = c.before.before.before.before.before.before.before.before.before.before.before.before.loop-test.true in
-    let front = c.before.before.before.before.before.before.before.before.before.before.before.key-front.ensures in
-    let taken = c.before.before.before.before.before.before.before.take-run.ensures in
-    let ends = at_end (at_key (parts c.before.before.before.before.before.before.before.before.before.before.before.before.before.before.before.before.before.before.before.requires.0).small left l.1.fit front) in (
+    let l = c.loop-left.invariant in
+    let left = c.loop-left-test.true in
+    let front = c.key_front-f.ensures in
+    let taken = c.take_run-c.ensures in
+    let ends = at_end (at_key (parts c.requires.0).small left l.1.fit front) in (
       omega (arith, l.0, left, taken.1.1.0),
       one_more_lem l.1 left taken.1.1.1 taken.1.0 ends,
       search rules,
@@ -45,7 +45,7 @@ loop_again c =
 
 returns : tie.Need-returns invariant_loop decreases_loop
 returns c =
-    let l = c.before.loop.invariant in
+    let l = c.loop-left.invariant in
     (last l.3 (each_none _ _ (keys_none _ _ _ (omega arith))), (all_put l.1 (omega arith), (omega (arith, l.0), omega (arith, l.1.few))))
 
 pub take_runs_spec : {M : Type 1} → statement M
@@ -55,14 +55,14 @@ take_runs_spec =
     invariant_loop
     decreases_loop
     loop_holds
-    (λ c κs. omega (arith, (parts c.before.before.before.before.before.before.before.requires.0).small, (step _ _ _ c.loop-test.true c.before.loop.invariant.1.fit).head))
-    (λ c κs. (c.before.before.before.before.before.before.before.before.before.before.before.requires.0, c.before.before.before.before.before.before.before.before.before.before.before.requires.1, at_key (parts c.before.before.before.before.before.before.before.before.before.before.before.requires.0).small c.before.before.before.before.loop-test.true c.before.before.before.before.before.loop.invariant.1.fit c.before.before.before.key-front.ensures, omega (arith, c.before.before.before.before.before.loop.invariant.0), omega (arith, c.before.before.before.before.before.loop.invariant.1.few, c.before.before.before.before.before.loop.invariant.2, c.before.before.before.before.loop-test.true, c.before.before.before.before.before.before.before.before.before.before.before.requires.2), c.before.before.before.before.before.loop.invariant.4))
-    (λ c. let k = at_key (parts c.before.before.before.before.before.before.before.before.before.before.before.before.before.before.before.before.before.before.requires.0).small c.before.before.before.before.before.before.before.before.before.before.before.loop-test.true c.before.before.before.before.before.before.before.before.before.before.before.before.loop.invariant.1.fit c.before.before.before.before.before.before.before.before.before.before.key-front.ensures in omega (arith, at_end k, k.inside, k.small))
-    (λ c. let k = at_key (parts c.before.before.before.before.before.before.before.before.before.before.before.before.before.before.before.before.before.before.before.requires.0).small c.before.before.before.before.before.before.before.before.before.before.before.before.loop-test.true c.before.before.before.before.before.before.before.before.before.before.before.before.before.loop.invariant.1.fit c.before.before.before.before.before.before.before.before.before.before.before.key-front.ensures in omega (arith, at_end k, k.inside, k.small))
-    (λ c. omega (arith, c.before.before.before.before.before.before.before.before.before.before.before.before.loop-test.true))
-    (λ c. omega (arith, c.before.before.before.before.before.before.before.before.before.before.before.before.loop-test.true))
+    (λ c κs. omega (arith, (parts c.requires.0).small, (step _ _ _ c.loop-left-test.true c.loop-left.invariant.1.fit).head))
+    (λ c κs. (c.requires.0, c.requires.1, at_key (parts c.requires.0).small c.loop-left-test.true c.loop-left.invariant.1.fit c.key_front-f.ensures, omega (arith, c.loop-left.invariant.0), omega (arith, c.loop-left.invariant.1.few, c.loop-left.invariant.2, c.loop-left-test.true, c.requires.2), c.loop-left.invariant.4))
+    (λ c. let k = at_key (parts c.requires.0).small c.loop-left-test.true c.loop-left.invariant.1.fit c.key_front-f.ensures in omega (arith, at_end k, k.inside, k.small))
+    (λ c. let k = at_key (parts c.requires.0).small c.loop-left-test.true c.loop-left.invariant.1.fit c.key_front-f.ensures in omega (arith, at_end k, k.inside, k.small))
+    (λ c. omega (arith, c.loop-left-test.true))
+    (λ c. omega (arith, c.loop-left-test.true))
     loop_again
-    (λ c. begun_length c.before.loop.invariant.3)
-    (λ c. begun_counts c.before.loop.invariant.3)
-    (λ c. c.before.loop.invariant.2)
+    (λ c. begun_length c.loop-left.invariant.3)
+    (λ c. begun_counts c.loop-left.invariant.3)
+    (λ c. c.loop-left.invariant.2)
     returns)

@@ -8,16 +8,16 @@ use native.Mathlib.Omega.{arith}
 use Rattle.buckets.proofs.used_among.Statement.{statement}
 use Rattle.buckets.proofs.used_among.Tie as tie
 
-abbrev invariant_loop : tie.invariant-loop
+abbrev invariant_loop : tie.invariant-loop-left
 invariant_loop book start count none u₀ left₀ u left = (u.count + left ≤ count) × (u ≡ used_of none (from book none start count left))
 
-abbrev decreases_loop : tie.decreases-loop
+abbrev decreases_loop : tie.decreases-loop-left
 decreases_loop book start count none u₀ left₀ u left = left
 
-loop_again : tie.Need-loop-preserved invariant_loop decreases_loop
+loop_again : tie.Need-loop-left-preserved invariant_loop decreases_loop
 loop_again c =
-    let a = c.before.before.before.before.before.args in
-    (omega (arith, c.with-entry.ensures.1, c.before.before.before.loop.invariant.0, c.before.before.loop-test.true), used_turn a.book.now a.none a.start a.count c.before.before.loop-test.true (omega (arith, c.before.before.before.loop.invariant.0)) c.before.alloc-entry.ensures c.before.before.before.loop.invariant.1 c.with-entry.ensures.0)
+    let a = c.args in
+    (omega (arith, c.with_entry-u.ensures.1, c.loop-left.invariant.0, c.loop-left-test.true), used_turn a.book.now a.none a.start a.count c.loop-left-test.true (omega (arith, c.loop-left.invariant.0)) c.alloc_entry-e.ensures c.loop-left.invariant.1 c.with_entry-u.ensures.0)
 
 pub used_among_spec : {M : Type 1} → statement M
 used_among_spec =
@@ -33,4 +33,4 @@ used_among_spec =
     (λ c κs. omega arith)
     (λ c. search rules)
     loop_again
-    (λ c. (used_all _ _ _ _ (omega arith) c.before.loop.invariant.1, omega arith)))
+    (λ c. (used_all _ _ _ _ (omega arith) c.loop-left.invariant.1, omega arith)))

@@ -6,11 +6,10 @@ use borrow.Author.Rules.{rules}
 use Rattle.buckets.proofs.used_from.Statement.{statement}
 use Rattle.buckets.proofs.used_from.Tie as tie
 
-used_down_requires : tie.Need-used-down-requires
+used_down_requires : tie.Need-used_down-requires
 used_down_requires c κs =
-    let p = c.before.before.before.before.before in
-    let a = p.args in
-    (omega arith, omega arith, omega arith, omega arith, mark_is a.book.now a.start a.count a.marks.now ((a.i + 255) / 256) p.requires.4 (omega arith) c.least.ensures)
+    let a = c.args in
+    (omega arith, omega arith, omega arith, omega arith, mark_is a.book.now a.start a.count a.marks.now ((a.i + 255) / 256) c.requires.4 (omega arith) c.least.ensures)
 
 pub used_from_spec : {M : Type 1} → statement M
 used_from_spec =

@@ -6,13 +6,13 @@ use native.Mathlib.Omega.{arith}
 use Rattle.buckets.proofs.with_entry.Statement.{statement}
 use Rattle.buckets.proofs.with_entry.Tie as tie
 
-returns : tie.Need-returns
+returns : tie.Need-returns-then-in_use
 unfolding used_with
-returns c = (rw (sym c.before.before.in_use.ensures ∙ c.before.if1.true), omega arith)
+returns c = (rw (sym c.in_use.ensures ∙ c.if-in_use.true), omega arith)
 
-returns_2 : tie.Need-returns-2
+returns_2 : tie.Need-returns
 unfolding used_with
-returns_2 c = (rw (sym c.before.in_use.ensures ∙ c.if1.false), omega arith)
+returns_2 c = (rw (sym c.in_use.ensures ∙ c.if-in_use.false), omega arith)
 
 pub with_entry_spec : {M : Type 1} → statement M
 with_entry_spec =

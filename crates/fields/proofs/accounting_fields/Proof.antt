@@ -6,17 +6,17 @@ use native.Mathlib.Omega.{arith}
 use Rattle.fields.proofs.accounting_fields.Statement.{statement}
 use Rattle.fields.proofs.accounting_fields.Tie as tie
 
-returns : tie.Need-returns
+returns : tie.Need-returns-then-kind-eq0
 unfolding accounting_fields
-returns c = (simp (eq-eqb _ _ c.if1.true), omega arith)
+returns c = (simp (eq-eqb _ _ c.if-kind-eq0.true), omega arith)
 
-returns_2 : tie.Need-returns-2
+returns_2 : tie.Need-returns-then-kind-eq2
 unfolding accounting_fields
-returns_2 c = (simp (ne_eqb _ _ c.before.before.if1.false, eq-eqb _ _ c.before.if2.true) c.replicas-end.ensures.0, omega arith)
+returns_2 c = (simp (ne_eqb _ _ c.if-kind-eq0.false, eq-eqb _ _ c.if-kind-eq2.true) c.replicas_end.ensures.0, omega arith)
 
-returns_3 : tie.Need-returns-3
+returns_3 : tie.Need-returns
 unfolding accounting_fields
-returns_3 c = (simp (ne_eqb _ _ c.before.if1.false, ne_eqb _ _ c.if2.false), omega arith)
+returns_3 c = (simp (ne_eqb _ _ c.if-kind-eq0.false, ne_eqb _ _ c.if-kind-eq2.false), omega arith)
 
 pub accounting_fields_spec : {M : Type 1} → statement M
 accounting_fields_spec =

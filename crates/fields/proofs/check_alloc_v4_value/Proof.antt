@@ -7,7 +7,7 @@ use Rattle.fields.proofs.check_alloc_v4_value.Tie as tie
 
 returns : tie.Need-returns
 unfolding check_alloc_v4_value
-returns c = (rw (← c.before.before.before.before.before.alloc-v4-bytes.ensures) c.before.before.before.before.emit-if.ensures.0, omega arith)
+returns c = (rw (← c.alloc_v4_bytes.ensures) c.emit_if.ensures.0, omega arith)
 
 pub check_alloc_v4_value_spec : {M : Type 1} → statement M
 check_alloc_v4_value_spec =

@@ -11,8 +11,8 @@ use Rattle.fields.proofs.check_head.Tie as tie
 returns : tie.Need-returns
 unfolding check_head size_bad snapshot_bad minimum_value is
 returns c = (
-  rw (← c.before.before.before.before.before.before.before.before.before.before.before.before.before.before.before.before.before.before.before.before.before.size-bad.ensures, ← c.before.before.before.before.before.before.before.before.before.before.before.before.before.snapshot-bad.ensures, ← c.before.before.before.before.before.minimum-value.ensures)
-      (added_more c.before.before.before.before.before.before.before.before.before.before.before.before.before.before.before.before.before.before.before.before.emit-if.ensures.0 (added_more c.before.before.before.before.before.before.before.before.before.before.before.before.emit-if2.ensures.0 c.before.before.before.before.emit-if3.ensures.0)),
+  rw (← c.size_bad.ensures, ← c.snapshot_bad.ensures, ← c.minimum_value.ensures)
+      (added_more c.emit_if-n.ensures.0 (added_more c.emit_if-n-2.ensures.0 c.emit_if.ensures.0)),
   omega arith,
 )
 

@@ -8,15 +8,15 @@ use native.Mathlib.Omega.{arith}
 use Rattle.fields.proofs.check_inode_v3_word.Statement.{statement}
 use Rattle.fields.proofs.check_inode_v3_word.Tie as tie
 
-returns : tie.Need-returns
+returns : tie.Need-returns-then-value-lt48
 unfolding check_inode_v3_word
-returns c = (added_not _ refl (lt-leb 48 _ c.if1.true), omega arith)
+returns c = (added_not _ refl (lt-leb 48 _ c.if-value-lt48.true), omega arith)
 
-returns_2 : tie.Need-returns-2
+returns_2 : tie.Need-returns
 unfolding check_inode_v3_word
 returns_2 c = (
-  rw (← c.before.before.before.before.before.before.before.before.before.before.before.before.before.before.le64.ensures)
-      (added_only refl (le-leb 48 _ c.before.before.before.before.before.before.before.before.before.before.before.before.before.before.before.if1.false) (added_more c.before.before.before.before.before.before.before.before.before.before.before.emit-if.ensures.0 c.before.before.before.before.emit-if2.ensures.0)),
+  rw (← c.le64-word.ensures)
+      (added_only refl (le-leb 48 _ c.if-value-lt48.false) (added_more c.emit_if-n.ensures.0 c.emit_if.ensures.0)),
   omega arith,
 )
 

@@ -9,8 +9,8 @@ use Rattle.fields.proofs.check_key_device.Tie as tie
 returns : tie.Need-returns
 unfolding check_key_device
 returns c =
-    let away = c.before.before.before.before.before.before.before.before.before.before.before.before.before.before.before.before.before.elsewhere.ensures in
-    (rw (← away) (more (begin c.before.before.before.before.before.before.before.before.before.before.before.before.emit-if.ensures.0) c.before.before.before.before.emit-if2.ensures.0), omega arith)
+    let away = c.elsewhere-away.ensures in
+    (rw (← away) (more (begin c.emit_if-n.ensures.0) c.emit_if.ensures.0), omega arith)
 
 pub check_key_device_spec : {M : Type 1} → statement M
 check_key_device_spec =

@@ -7,7 +7,7 @@ use Rattle.fields.proofs.check_key_fields.Statement.{statement}
 use Rattle.fields.proofs.check_key_fields.Tie as tie
 
 returns : tie.Need-returns
-returns c = (begin (added_as (parts _ _) (added_more (added_more c.before.before.before.before.before.before.before.before.before.before.before.before.before.before.before.before.before.before.check-head.ensures.0 c.before.before.before.before.before.before.before.before.before.before.before.check-value.ensures.0) c.before.before.before.before.check-position.ensures.0)), omega arith)
+returns c = (begin (added_as (parts _ _) (added_more (added_more c.check_head-n.ensures.0 c.check_value-n.ensures.0) c.check_position.ensures.0)), omega arith)
 
 pub check_key_fields_spec : {M : Type 1} → statement M
 check_key_fields_spec =

@@ -9,7 +9,7 @@ use Rattle.fields.proofs.check_position.Tie as tie
 
 returns : tie.Need-returns
 unfolding kind_found
-returns c = (added_as (sym (c.before.before.before.before.before.before.before.position-kind.ensures c.before.before.before.before.before.before.before.before.before.before.before.args.i)) c.before.before.before.before.emit-if.ensures.0, omega arith)
+returns c = (added_as (sym (c.position_kind-kind.ensures c.args.i)) c.emit_if.ensures.0, omega arith)
 
 pub check_position_spec : {M : Type 1} → statement M
 check_position_spec =

@@ -9,13 +9,13 @@ use native.Mathlib.Omega.{arith}
 use Rattle.fields.proofs.check_snapshot_pad.Statement.{statement}
 use Rattle.fields.proofs.check_snapshot_pad.Tie as tie
 
-returns : tie.Need-returns
+returns : tie.Need-returns-then-value-lt64
 unfolding check_snapshot_pad when
-returns c = (rw (lt-leb 64 _ c.if1.true) (added_nil refl), omega arith)
+returns c = (rw (lt-leb 64 _ c.if-value-lt64.true) (added_nil refl), omega arith)
 
-returns_2 : tie.Need-returns-2
+returns_2 : tie.Need-returns
 unfolding check_snapshot_pad
-returns_2 c = (rw (le-leb 64 _ c.before.before.before.before.before.before.before.before.if1.false, ← c.before.before.before.before.before.le32.ensures) c.before.before.before.before.emit-if.ensures.0, omega arith)
+returns_2 c = (rw (le-leb 64 _ c.if-value-lt64.false, ← c.le32.ensures) c.emit_if.ensures.0, omega arith)
 
 pub check_snapshot_pad_spec : {M : Type 1} → statement M
 check_snapshot_pad_spec =

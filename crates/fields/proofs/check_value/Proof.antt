@@ -10,40 +10,40 @@ use native.Mathlib.Omega.{arith}
 use Rattle.fields.proofs.check_value.Statement.{statement}
 use Rattle.fields.proofs.check_value.Tie as tie
 
-returns : tie.Need-returns
+returns : tie.Need-returns-in-5154
 returns c =
-    let h = c.before.before.before.before.before.before.before.before.before.before.before.before.args.h in
+    let h = c.args.h in
     let e : h.btree ≡ 20 = omega arith in
     let f : h.key_type ≡ 34 = omega arith in
-    (added_as (value_accounting _ _ e f) c.before.before.before.before.check-accounting-key.ensures.0, omega arith)
+    (added_as (value_accounting _ _ e f) c.check_accounting_key.ensures.0, omega arith)
 
-returns_2 : tie.Need-returns-2
+returns_2 : tie.Need-returns-in-285
 returns_2 c =
-    let h = c.before.before.before.before.before.before.before.before.before.before.before.before.args.h in
+    let h = c.args.h in
     let e : h.btree ≡ 1 = omega arith in
     let f : h.key_type ≡ 29 = omega arith in
-    (added_as (value_inode _ _ e f) c.before.before.before.before.check-inode-v3-word.ensures.0, omega arith)
+    (added_as (value_inode _ _ e f) c.check_inode_v3_word.ensures.0, omega arith)
 
-returns_3 : tie.Need-returns-3
+returns_3 : tie.Need-returns-in-2326
 returns_3 c =
-    let h = c.before.before.before.before.before.before.before.before.before.before.before.before.args.h in
+    let h = c.args.h in
     let e : h.btree ≡ 9 = omega arith in
     let f : h.key_type ≡ 22 = omega arith in
-    (added_as (value_snapshot _ _ e f) c.before.before.before.before.check-snapshot-pad.ensures.0, omega arith)
+    (added_as (value_snapshot _ _ e f) c.check_snapshot_pad.ensures.0, omega arith)
 
-returns_4 : tie.Need-returns-4
+returns_4 : tie.Need-returns-in-1051
 returns_4 c =
-    let h = c.before.before.before.before.before.before.before.before.before.before.before.before.args.h in
+    let h = c.args.h in
     let e : h.btree ≡ 4 = omega arith in
     let f : h.key_type ≡ 27 = omega arith in
-    (added_as (value_alloc _ _ e f) c.before.before.before.before.check-alloc-v4-value.ensures.0, omega arith)
+    (added_as (value_alloc _ _ e f) c.check_alloc_v4_value.ensures.0, omega arith)
 
-returns_5 : tie.Need-returns-5
+returns_5 : tie.Need-returns-in_default
 unfolding check_value is only
 returns_5 c =
-    let h = c.before.before.before.before.before.args.h in
-    let p = c.before.pair.ensures in
-    let rest = c.match.rest in (
+    let h = c.args.h in
+    let p = c.pair-p.ensures in
+    let rest = c.in_default.rest in (
       simp (
         pair_not 20 34 h.btree h.key_type (λ e. rest.0.0.0.1 (p ∙ e)),
         pair_not 1 29 h.btree h.key_type (λ e. rest.0.0.1 (p ∙ e)),

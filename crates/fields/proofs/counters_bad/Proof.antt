@@ -6,7 +6,7 @@ use Rattle.fields.proofs.counters_bad.Tie as tie
 
 returns : tie.Need-returns
 unfolding counters_bad
-returns c = rw (c.before.over-three-counters.ensures, c.no-counter.ensures)
+returns c = rw (c.over_three_counters.ensures, c.no_counter.ensures)
 
 pub counters_bad_spec : {M : Type 1} → statement M
 counters_bad_spec =

@@ -5,13 +5,13 @@ use borrow.Author.Rules.{rules}
 use Rattle.fields.proofs.front_pad_bad.Statement.{statement}
 use Rattle.fields.proofs.front_pad_bad.Tie as tie
 
-returns : tie.Need-returns
+returns : tie.Need-returns-then-value-lt16
 unfolding front_pad_bad
-returns c = simp (lt-leb 16 _ c.if1.true)
+returns c = simp (lt-leb 16 _ c.if-value-lt16.true)
 
-returns_2 : tie.Need-returns-2
+returns_2 : tie.Need-returns
 unfolding front_pad_bad
-returns_2 c = simp (le-leb 16 _ c.before.before.if1.false) (rw (c.before.reflink-p-idx.ensures, c.le32.ensures))
+returns_2 c = simp (le-leb 16 _ c.if-value-lt16.false) (rw (c.reflink_p_idx.ensures, c.le32.ensures))
 
 pub front_pad_bad_spec : {M : Type 1} → statement M
 front_pad_bad_spec =

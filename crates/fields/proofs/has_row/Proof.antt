@@ -9,20 +9,20 @@ use native.Mathlib.Omega.{arith}
 use Rattle.fields.proofs.has_row.Statement.{statement}
 use Rattle.fields.proofs.has_row.Tie as tie
 
-abbrev invariant_loop : tie.invariant-loop
+abbrev invariant_loop : tie.invariant-loop-row
 invariant_loop table btree key-type row₀ row = (row ≤ length table / 2) × (has_row table btree key-type ≡ has_row (drop (2 * row) table) btree key-type)
 
-abbrev decreases_loop : tie.decreases-loop
+abbrev decreases_loop : tie.decreases-loop-row
 decreases_loop table btree key-type row₀ row = length table / 2 - row
 
-returns : tie.Need-returns invariant_loop decreases_loop
-returns c = sym (c.before.before.before.before.loop.invariant.1 ∙ row_step _ _ _ _ c.before.before.before.loop-test.true ∙ rw c.if1.true)
+returns : tie.Need-returns-then-table-at invariant_loop decreases_loop
+returns c = sym (c.loop-row.invariant.1 ∙ row_step _ _ _ _ c.loop-row-test.true ∙ rw c.if-table-at.true)
 
-loop_again : tie.Need-loop-preserved invariant_loop decreases_loop
-loop_again c = (omega arith, c.before.before.before.before.loop.invariant.1 ∙ row_step _ _ _ _ c.before.before.before.loop-test.true ∙ rw c.if1.false)
+loop_again : tie.Need-loop-row-preserved invariant_loop decreases_loop
+loop_again c = (omega arith, c.loop-row.invariant.1 ∙ row_step _ _ _ _ c.loop-row-test.true ∙ rw c.if-table-at.false)
 
-returns_2 : tie.Need-returns-2 invariant_loop decreases_loop
-returns_2 c = sym (c.before.loop.invariant.1 ∙ row_none _ _ _ _ c.loop-test.false)
+returns_2 : tie.Need-returns invariant_loop decreases_loop
+returns_2 c = sym (c.loop-row.invariant.1 ∙ row_none _ _ _ _ c.loop-row-test.false)
 
 pub has_row_spec : {M : Type 1} → statement M
 has_row_spec =

@@ -11,9 +11,9 @@ use Rattle.fields.proofs.junk_at_end.Tie as tie
 returns : tie.Need-returns
 unfolding junk_at_end
 returns c =
-    let s = c.before.before.before.before.args.bytes.now in
-    let a = c.before.before.before.accounting-fields.result in
-    rw (c.some-nonzero.ensures, take_all (length s - a) (drop a s) (omega (arith, length-drop a s)), c.before.before.before.accounting-fields.ensures.0)
+    let s = c.args.bytes.now in
+    let a = c.accounting_fields-from.result in
+    rw (c.some_nonzero.ensures, take_all (length s - a) (drop a s) (omega (arith, length-drop a s)), c.accounting_fields-from.ensures.0)
 
 pub junk_at_end_spec : {M : Type 1} → statement M
 junk_at_end_spec =

@@ -5,13 +5,13 @@ use borrow.Author.Rules.{rules}
 use Rattle.fields.proofs.level_bad.Statement.{statement}
 use Rattle.fields.proofs.level_bad.Tie as tie
 
-returns : tie.Need-returns
+returns : tie.Need-returns-then-value-lt2
 unfolding level_bad
-returns c = simp (lt-leb 2 _ c.if1.true)
+returns c = simp (lt-leb 2 _ c.if-value-lt2.true)
 
-returns_2 : tie.Need-returns-2
+returns_2 : tie.Need-returns
 unfolding level_bad
-returns_2 c = simp (le-leb 2 _ c.before.if1.false) (rw c.byte.ensures.0)
+returns_2 c = simp (le-leb 2 _ c.if-value-lt2.false) (rw c.byte.ensures.0)
 
 pub level_bad_spec : {M : Type 1} → statement M
 level_bad_spec =

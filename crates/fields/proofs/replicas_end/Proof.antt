@@ -4,11 +4,11 @@ use borrow.Author.Rules.{rules}
 use Rattle.fields.proofs.replicas_end.Statement.{statement}
 use Rattle.fields.proofs.replicas_end.Tie as tie
 
-returns : tie.Need-returns
+returns : tie.Need-returns-then-devices-lt16
 unfolding replicas_end
 returns c = search rules
 
-returns_2 : tie.Need-returns-2
+returns_2 : tie.Need-returns
 unfolding replicas_end
 returns_2 c = search rules
 

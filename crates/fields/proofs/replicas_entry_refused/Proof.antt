@@ -7,7 +7,7 @@ use Rattle.fields.proofs.replicas_entry_refused.Tie as tie
 
 returns : tie.Need-returns
 unfolding replicas_entry_refused
-returns c = rw (c.some-not-rising.ensures, drop_take, c.before.before.before.before.before.replicas-end.ensures.0)
+returns c = rw (c.some_not_rising-unsorted.ensures, drop_take, c.replicas_end-end.ensures.0)
 
 pub replicas_entry_refused_spec : {M : Type 1} → statement M
 replicas_entry_refused_spec =

@@ -6,12 +6,12 @@ use borrow.Author.Rules.{rules}
 use Rattle.fields.proofs.size_bad.Statement.{statement}
 use Rattle.fields.proofs.size_bad.Tie as tie
 
-returns : tie.Need-returns
-returns c = sym (size_may _ c.if1.true)
+returns : tie.Need-returns-then-h
+returns c = sym (size_may _ c.if-h.true)
 
-returns_2 : tie.Need-returns-2
+returns_2 : tie.Need-returns
 unfolding size_zero
-returns_2 c = c.has-row.ensures ∙ size_row _ c.before.before.if1.false
+returns_2 c = c.has_row.ensures ∙ size_row _ c.if-h.false
 
 pub size_bad_spec : {M : Type 1} → statement M
 size_bad_spec =

@@ -6,13 +6,13 @@ use borrow.Author.Rules.{rules}
 use Rattle.fields.proofs.snapshot_bad.Statement.{statement}
 use Rattle.fields.proofs.snapshot_bad.Tie as tie
 
-returns : tie.Need-returns
+returns : tie.Need-returns-then-h-eq0
 unfolding snapshot_bad
-returns c = simp (eq-eqb _ _ c.if1.true)
+returns c = simp (eq-eqb _ _ c.if-h-eq0.true)
 
-returns_2 : tie.Need-returns-2
+returns_2 : tie.Need-returns
 unfolding snapshot_bad snapshot_zero
-returns_2 c = simp (ne_eqb _ _ c.before.before.if1.false) c.has-row.ensures
+returns_2 c = simp (ne_eqb _ _ c.if-h-eq0.false) c.has_row.ensures
 
 pub snapshot_bad_spec : {M : Type 1} → statement M
 snapshot_bad_spec =

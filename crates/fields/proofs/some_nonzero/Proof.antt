@@ -10,20 +10,20 @@ use native.Mathlib.Omega.{arith}
 use Rattle.fields.proofs.some_nonzero.Statement.{statement}
 use Rattle.fields.proofs.some_nonzero.Tie as tie
 
-abbrev invariant_loop : tie.invariant-loop
+abbrev invariant_loop : tie.invariant-loop-i
 invariant_loop bytes i₀ i = (i ≤ length bytes) × (some_nonzero bytes ≡ some_nonzero (drop i bytes))
 
-abbrev decreases_loop : tie.decreases-loop
+abbrev decreases_loop : tie.decreases-loop-i
 decreases_loop bytes i₀ i = length bytes - i
 
-returns : tie.Need-returns invariant_loop decreases_loop
-returns c = sym (c.before.before.before.loop.invariant.1 ∙ nonzero_step _ _ c.before.before.loop-test.true ∙ rw (ne_eqb _ _ c.if1.true))
+returns : tie.Need-returns-then-bytes-i-ne0 invariant_loop decreases_loop
+returns c = sym (c.loop-i.invariant.1 ∙ nonzero_step _ _ c.loop-i-test.true ∙ rw (ne_eqb _ _ c.if-bytes-i-ne0.true))
 
-loop_again : tie.Need-loop-preserved invariant_loop decreases_loop
-loop_again c = (omega arith, c.before.before.before.loop.invariant.1 ∙ nonzero_step _ _ c.before.before.loop-test.true ∙ rw c.if1.false)
+loop_again : tie.Need-loop-i-preserved invariant_loop decreases_loop
+loop_again c = (omega arith, c.loop-i.invariant.1 ∙ nonzero_step _ _ c.loop-i-test.true ∙ rw c.if-bytes-i-ne0.false)
 
-returns_2 : tie.Need-returns-2 invariant_loop decreases_loop
-returns_2 c = sym (c.before.loop.invariant.1 ∙ nonzero_none _ _ c.loop-test.false)
+returns_2 : tie.Need-returns invariant_loop decreases_loop
+returns_2 c = sym (c.loop-i.invariant.1 ∙ nonzero_none _ _ c.loop-i-test.false)
 
 pub some_nonzero_spec : {M : Type 1} → statement M
 some_nonzero_spec =

@@ -10,20 +10,20 @@ use native.Mathlib.Omega.{arith}
 use Rattle.fields.proofs.some_not_rising.Statement.{statement}
 use Rattle.fields.proofs.some_not_rising.Tie as tie
 
-abbrev invariant_loop : tie.invariant-loop
+abbrev invariant_loop : tie.invariant-loop-i
 invariant_loop devices i₀ i = (i ≤ length devices) × (some_not_rising devices ≡ some_not_rising (drop i devices))
 
-abbrev decreases_loop : tie.decreases-loop
+abbrev decreases_loop : tie.decreases-loop-i
 decreases_loop devices i₀ i = length devices - i
 
-returns : tie.Need-returns invariant_loop decreases_loop
-returns c = sym (c.before.before.before.before.loop.invariant.1 ∙ rising_step c.before.before.before.before.before.args.devices.now c.before.before.before.before.loop.i c.before.before.before.loop-test.true ∙ rw (le-leb _ _ c.if1.true))
+returns : tie.Need-returns-then-devices-i invariant_loop decreases_loop
+returns c = sym (c.loop-i.invariant.1 ∙ rising_step c.args.devices.now c.loop-i.i c.loop-i-test.true ∙ rw (le-leb _ _ c.if-devices-i.true))
 
-loop_again : tie.Need-loop-preserved invariant_loop decreases_loop
-loop_again c = (omega arith, c.before.before.before.before.loop.invariant.1 ∙ rising_step c.before.before.before.before.before.args.devices.now c.before.before.before.before.loop.i c.before.before.before.loop-test.true ∙ rw (lt-leb _ _ c.if1.false))
+loop_again : tie.Need-loop-i-preserved invariant_loop decreases_loop
+loop_again c = (omega arith, c.loop-i.invariant.1 ∙ rising_step c.args.devices.now c.loop-i.i c.loop-i-test.true ∙ rw (lt-leb _ _ c.if-devices-i.false))
 
-returns_2 : tie.Need-returns-2 invariant_loop decreases_loop
-returns_2 c = sym (c.before.loop.invariant.1 ∙ rising_none c.before.before.args.devices.now c.before.loop.i c.loop-test.false)
+returns_2 : tie.Need-returns invariant_loop decreases_loop
+returns_2 c = sym (c.loop-i.invariant.1 ∙ rising_none c.args.devices.now c.loop-i.i c.loop-i-test.false)
 
 pub some_not_rising_spec : {M : Type 1} → statement M
 some_not_rising_spec =

@@ -6,13 +6,13 @@ use borrow.Author.Rules.{rules}
 use Rattle.fields.proofs.xattr_short.Statement.{statement}
 use Rattle.fields.proofs.xattr_short.Tie as tie
 
-returns : tie.Need-returns
+returns : tie.Need-returns-then-value-lt4
 unfolding xattr_short
-returns c = simp (lt-leb 4 _ c.if1.true)
+returns c = simp (lt-leb 4 _ c.if-value-lt4.true)
 
-returns_2 : tie.Need-returns-2
+returns_2 : tie.Need-returns
 unfolding xattr_short
-returns_2 c = simp (le-leb 4 _ c.before.before.before.if1.false) (rw (word_at_2, c.before.before.byte.ensures.0, c.before.byte2.ensures.0, c.byte3.ensures.0))
+returns_2 c = simp (le-leb 4 _ c.if-value-lt4.false) (rw (word_at_2, c.byte-name.ensures.0, c.byte.ensures.0, c.byte-2.ensures.0))
 
 pub xattr_short_spec : {M : Type 1} → statement M
 xattr_short_spec =

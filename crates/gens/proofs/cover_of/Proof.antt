@@ -6,10 +6,10 @@ use borrow.Author.Rules.{rules}
 use Rattle.gens.proofs.cover_of.Statement.{statement}
 use Rattle.gens.proofs.cover_of.Tie as tie
 
-returns : tie.Need-returns
+returns : tie.Need-returns-then-c-block
 returns c =
-    let a = c.before.before.before.args in
-    (c.if1.true, c.before.before.before.requires.2 ∙ ap (λ (b : ℕ). has (pair b 0) (pairs_of a.work.now a.n)) c.if1.true)
+    let a = c.args in
+    (c.if-c-block.true, c.requires.2 ∙ ap (λ (b : ℕ). has (pair b 0) (pairs_of a.work.now a.n)) c.if-c-block.true)
 
 pub cover_of_spec : {M : Type 1} → statement M
 cover_of_spec = tie.close (tie.spec returns (λ c κs. search rules) (λ c. search rules))

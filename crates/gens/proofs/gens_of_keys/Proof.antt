@@ -14,26 +14,26 @@ use native.Mathlib.Omega.{arith}
 use Rattle.gens.proofs.gens_of_keys.Statement.{statement}
 use Rattle.gens.proofs.gens_of_keys.Tie as tie
 
-abbrev invariant_loop : tie.invariant-loop
+abbrev invariant_loop : tie.invariant-loop-left
 invariant_loop book h at out₀ counts₀ work₀ c₀ left₀ p₀ out counts work c left p =
     (c.found + left * 256 ≤ h.keys * 256) × Gathered (cover_pair h.device) book left₀ p₀ work c.put left p × (length work ≡ length work₀)
     × Walk (λ _ k. key_gens h.device (book_of book).gens k) (book_of book).keys (sink out₀ counts₀) 0 (keys_from book left p) c.found (sink out counts)
 
-abbrev decreases_loop : tie.decreases-loop
+abbrev decreases_loop : tie.decreases-loop-left
 decreases_loop book h at out₀ counts₀ work₀ c₀ left₀ p₀ out counts work c left p = left
 
-loop_holds : tie.Need-loop-init invariant_loop decreases_loop
+loop_holds : tie.Need-loop-left-init invariant_loop decreases_loop
 loop_holds c =
-    let o = parts c.before.before.before.before.requires.0 in
+    let o = parts c.requires.0 in
     (omega arith, none_yet o.keys_fit, refl, rw o.keys first)
 
-loop_again : tie.Need-loop-preserved invariant_loop decreases_loop
+loop_again : tie.Need-loop-left-preserved invariant_loop decreases_loop
 loop_again c =
-    let l = c.before.before.before.before.before.before.before.before.before.before.before.before.before.loop.invariant in
-    let left = c.before.before.before.before.before.before.before.before.before.before.before.before.loop-test.true in
-    let front = c.before.before.before.before.before.before.before.before.before.before.before.key-front.ensures in
-    let taken = c.before.before.before.before.before.before.before.take-gens.ensures in
-    let ends = at_end (at_key (parts c.before.before.before.before.before.before.before.before.before.before.before.before.before.before.before.before.before.before.requires.0).small left l.1.fit front) in (
+    let l = c.loop-left.invariant in
+    let left = c.loop-left-test.true in
+    let front = c.key_front-f.ensures in
+    let taken = c.take_gens-c.ensures in
+    let ends = at_end (at_key (parts c.requires.0).small left l.1.fit front) in (
       omega (arith, l.0, left, taken.1.1.0),
       one_more_lem l.1 left taken.1.1.1 taken.1.0 ends,
       search rules,
@@ -42,7 +42,7 @@ loop_again c =
 
 returns : tie.Need-returns invariant_loop decreases_loop
 returns c =
-    let l = c.before.loop.invariant in
+    let l = c.loop-left.invariant in
     (last l.3 (each_none _ _ (keys_none _ _ _ (omega arith))), (all_put l.1 (omega arith), (omega (arith, l.0), omega (arith, l.1.few))))
 
 pub gens_of_keys_spec : {M : Type 1} → statement M
@@ -52,14 +52,14 @@ gens_of_keys_spec =
     invariant_loop
     decreases_loop
     loop_holds
-    (λ c κs. omega (arith, (parts c.before.before.before.before.before.before.requires.0).small, (step _ _ _ c.loop-test.true c.before.loop.invariant.1.fit).head))
-    (λ c κs. (c.before.before.before.before.before.before.before.before.before.before.requires.0, at_key (parts c.before.before.before.before.before.before.before.before.before.before.requires.0).small c.before.before.before.before.loop-test.true c.before.before.before.before.before.loop.invariant.1.fit c.before.before.before.key-front.ensures, omega (arith, c.before.before.before.before.before.loop.invariant.0), omega (arith, c.before.before.before.before.before.loop.invariant.1.few, c.before.before.before.before.before.loop.invariant.2, c.before.before.before.before.loop-test.true, c.before.before.before.before.before.before.before.before.before.before.requires.1)))
-    (λ c. let k = at_key (parts c.before.before.before.before.before.before.before.before.before.before.before.before.before.before.before.before.before.requires.0).small c.before.before.before.before.before.before.before.before.before.before.before.loop-test.true c.before.before.before.before.before.before.before.before.before.before.before.before.loop.invariant.1.fit c.before.before.before.before.before.before.before.before.before.before.key-front.ensures in omega (arith, at_end k, k.inside, k.small))
-    (λ c. let k = at_key (parts c.before.before.before.before.before.before.before.before.before.before.before.before.before.before.before.before.before.before.requires.0).small c.before.before.before.before.before.before.before.before.before.before.before.before.loop-test.true c.before.before.before.before.before.before.before.before.before.before.before.before.before.loop.invariant.1.fit c.before.before.before.before.before.before.before.before.before.before.before.key-front.ensures in omega (arith, at_end k, k.inside, k.small))
-    (λ c. omega (arith, c.before.before.before.before.before.before.before.before.before.before.before.before.loop-test.true))
-    (λ c. omega (arith, c.before.before.before.before.before.before.before.before.before.before.before.before.loop-test.true))
+    (λ c κs. omega (arith, (parts c.requires.0).small, (step _ _ _ c.loop-left-test.true c.loop-left.invariant.1.fit).head))
+    (λ c κs. (c.requires.0, at_key (parts c.requires.0).small c.loop-left-test.true c.loop-left.invariant.1.fit c.key_front-f.ensures, omega (arith, c.loop-left.invariant.0), omega (arith, c.loop-left.invariant.1.few, c.loop-left.invariant.2, c.loop-left-test.true, c.requires.1)))
+    (λ c. let k = at_key (parts c.requires.0).small c.loop-left-test.true c.loop-left.invariant.1.fit c.key_front-f.ensures in omega (arith, at_end k, k.inside, k.small))
+    (λ c. let k = at_key (parts c.requires.0).small c.loop-left-test.true c.loop-left.invariant.1.fit c.key_front-f.ensures in omega (arith, at_end k, k.inside, k.small))
+    (λ c. omega (arith, c.loop-left-test.true))
+    (λ c. omega (arith, c.loop-left-test.true))
     loop_again
-    (λ c. begun_length c.before.loop.invariant.3)
-    (λ c. begun_counts c.before.loop.invariant.3)
-    (λ c. c.before.loop.invariant.2)
+    (λ c. begun_length c.loop-left.invariant.3)
+    (λ c. begun_counts c.loop-left.invariant.3)
+    (λ c. c.loop-left.invariant.2)
     returns)

@@ -16,30 +16,30 @@ use native.Mathlib.Omega.{arith}
 use Rattle.gens.proofs.gens_of_value.Statement.{statement}
 use Rattle.gens.proofs.gens_of_value.Tie as tie
 
-abbrev invariant_loop : tie.invariant-loop
+abbrev invariant_loop : tie.invariant-loop-i
 invariant_loop book start count offset value out₀ counts₀ end base at₀ n₀ i₀ out counts at n i =
     (i ≤ end) × (n ≤ i) × LowerBound (first_at gens_table book start) count (base + i) at
     × Walk (gen_at (gens_from book count start) offset) (take 256 value) (sink out₀ counts₀) i (drop i (take 256 value)) n (sink out counts)
 
-abbrev decreases_loop : tie.decreases-loop
+abbrev decreases_loop : tie.decreases-loop-i
 decreases_loop book start count offset value out₀ counts₀ end base at₀ n₀ i₀ out counts at n i = end - i
 
-loop_again : tie.Need-loop-preserved invariant_loop decreases_loop
+loop_again : tie.Need-loop-i-preserved invariant_loop decreases_loop
 loop_again c =
-    let a = c.before.before.before.before.before.before.before.before.before.before.before.before.before.before.before.before.before.args in
+    let a = c.args in
     let v = a.value.now in
-    let l = c.before.before.before.before.before.before.before.before.before.before.loop in
-    let next = c.before.before.before.before.before.before.before.before.next-gen.ensures in
+    let l = c.loop-i in
+    let next = c.next_gen-g.ensures in
     let within : l.i < length (take 256 v) = omega (arith, length-take 256 v) in
     let byte : get_or (take 256 v) l.i 0 ≡ get_or v l.i 0 = get_or-take 256 v l.i 0 (omega (arith, length-take 256 v)) in
     let is = gen_is (gens_from a.book.now a.count a.start) a.offset l.i refl (sym byte) next.0 in
-    (omega arith, omega arith, bound_as (omega arith) next.1, turn_at _ _ l.i within l.invariant.3 (added_as is c.before.before.before.before.gen-at.ensures.0))
+    (omega arith, omega arith, bound_as (omega arith) next.1, turn_at _ _ l.i within l.invariant.3 (added_as is c.gen_at-n.ensures.0))
 
 returns : tie.Need-returns invariant_loop decreases_loop
 returns c =
-    let v = c.before.before.before.before.before.before.before.before.args.value.now in
-    let past : length (take 256 v) ≤ c.before.loop.i = omega (arith, length-take 256 v) in
-    (last c.before.loop.invariant.3 (each_none _ _ (drop_past _ _ past)), omega arith)
+    let v = c.args.value.now in
+    let past : length (take 256 v) ≤ c.loop-i.i = omega (arith, length-take 256 v) in
+    (last c.loop-i.invariant.3 (each_none _ _ (drop_past _ _ past)), omega arith)
 
 pub gens_of_value_spec : {M : Type 1} → statement M
 gens_of_value_spec =
@@ -50,14 +50,14 @@ gens_of_value_spec =
     (λ c κs. search rules)
     (λ c. search rules)
     (λ c κs. search rules)
-    (λ c. (omega arith, omega arith, bound_as (omega arith) c.gens-from.ensures, first))
+    (λ c. (omega arith, omega arith, bound_as (omega arith) c.gens_from-at.ensures, first))
     (λ c. search rules)
-    (λ c κs. (c.before.before.before.before.before.before.before.before.requires, c.before.loop.invariant.2))
+    (λ c κs. (c.requires, c.loop-i.invariant.2))
     (λ c. search rules)
     (λ c κs. search rules)
     (λ c. search rules)
     (λ c. search rules)
     loop_again
-    (λ c. begun_length c.before.loop.invariant.3)
-    (λ c. begun_counts c.before.loop.invariant.3)
+    (λ c. begun_length c.loop-i.invariant.3)
+    (λ c. begun_counts c.loop-i.invariant.3)
     returns)

@@ -9,5 +9,5 @@ is_gens_spec =
     tie.close
     (tie.spec
     (λ c κs. search rules)
-    (λ c. gens_by c.before.before.before.before.before.requires c.before.before.before.before.before.args.device c.before.if1.true c.key-inode.ensures)
-    (λ c. gens_not c.before.before.before.before.requires c.before.before.before.before.args.device c.if1.false))
+    (λ c. gens_by c.requires c.args.device c.if-f.true c.key_inode.ensures)
+    (λ c. gens_not c.requires c.args.device c.if-f.false))

@@ -10,28 +10,28 @@ use Rattle.gens.proofs.key_gens.Tie as tie
 
 returns : tie.Need-returns
 returns c =
-    let a = c.before.before.before.before.before.before.before.before.before.before.before.before.before.before.before.args in
-    let pre = c.before.before.before.before.before.before.before.before.before.before.before.before.before.before.before.requires in
-    let from = c.before.before.before.before.before.before.before.before.before.start_of_lem in
-    let found = c.before.before.before.before.gens-of-value in
-    (added_as (gens_found pre.1 (parts pre.0).gens c.before.before.before.before.before.before.before.before.before.before.key-offset.ensures) (lent a.out.now from.result a.n from.ensures found.ensures.0), omega (arith, found.ensures.1))
+    let a = c.args in
+    let pre = c.requires in
+    let from = c.start_of-from in
+    let found = c.gens_of_value in
+    (added_as (gens_found pre.1 (parts pre.0).gens c.key_offset-offset.ensures) (lent a.out.now from.result a.n from.ensures found.ensures.0), omega (arith, found.ensures.1))
 
 pub key_gens_spec : {M : Type 1} → statement M
 key_gens_spec =
     tie.close
     (tie.spec
-    (λ c. let k = c.before.before.before.requires.1 in omega (arith, at_end k, k.inside, k.small))
-    (λ c. let k = c.before.before.before.before.requires.1 in omega (arith, at_end k, k.inside, k.small))
+    (λ c. let k = c.requires.1 in omega (arith, at_end k, k.inside, k.small))
+    (λ c. let k = c.requires.1 in omega (arith, at_end k, k.inside, k.small))
     (λ c κs. search rules)
     (λ c κs. search rules)
     (λ c. search rules)
     (λ c. search rules)
     (λ c. search rules)
-    (λ c. let k = c.before.before.before.before.before.before.before.requires.1 in omega (arith, at_end k, k.inside))
+    (λ c. let k = c.requires.1 in omega (arith, at_end k, k.inside))
     (λ c. search rules)
     (λ c. search rules)
     (λ c. search rules)
-    (λ c κs. (parts c.before.before.before.before.before.before.before.before.before.before.requires.0).gens_rise)
+    (λ c κs. (parts c.requires.0).gens_rise)
     (λ c. search rules)
     (λ c. search rules)
     (λ c. search rules)

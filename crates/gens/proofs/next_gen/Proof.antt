@@ -14,38 +14,38 @@ use native.Mathlib.Omega.{arith}
 use Rattle.gens.proofs.next_gen.Statement.{statement}
 use Rattle.gens.proofs.next_gen.Tie as tie
 
-bytes : (c : tie.After-shared-slice-known) (j : ℕ) → get_or c.before.args.book.now j 0 < 256
-bytes c j = (c.shared-slice-known.given j).fits
+bytes : (c : tie.After-shared_slice_known-1) (j : ℕ) → get_or c.args.book.now j 0 < 256
+bytes c j = (c.shared_slice_known-1.given j).fits
 
-returns : tie.Need-returns
+returns : tie.Need-returns-then-at-count
 unfolding or_zero
 returns c =
-    let p = c.before.before.requires in
-    let a = c.before.before.args in
+    let p = c.requires in
+    let a = c.args in
     (rw (found_none whole_rest gens_table a.book.now a.count a.start a.bucket a.at p.1 p.0 (λ l e. omega arith)), place_same p.0 a.bucket a.at p.1 (λ l e. omega arith))
 
-returns_2 : tie.Need-returns-2
+returns_2 : tie.Need-returns-then-be64-bucket
 unfolding or_zero
 returns_2 c =
     let k = c.before.before.before.before in
-    let p = k.before.requires in
-    let a = k.before.args in
+    let p = k.requires in
+    let a = k.args in
     let s = a.book.now in
-    let here : first_at gens_table s a.start a.at ≡ a.bucket = first_be gens_table s (bytes k) (a.start + a.at * 9) 8 refl ∙ sym c.before.before.be64.ensures ∙ c.before.if2.true in
+    let here : first_at gens_table s a.start a.at ≡ a.bucket = first_be gens_table s (bytes k) (a.start + a.at * 9) 8 refl ∙ sym c.be64.ensures ∙ c.if-be64-bucket.true in
     let inside : a.at < a.count = omega (arith, p.1.inside) in (
       rw (found_at whole_rest gens_table s a.count a.start a.bucket a.at p.1 p.0 inside here)
           (ap (λ (i : ℕ). get_or s i 0) (omega arith) ∙ sym (be_one s (a.start + a.at * 9 + 8)) ∙ sym (rest_be gens_table s (bytes k) (a.start + a.at * 9) 8 refl 1 refl)),
       place_past p.0 a.bucket a.at p.1 inside here,
     )
 
-returns_3 : tie.Need-returns-3
+returns_3 : tie.Need-returns
 unfolding or_zero
 returns_3 c =
     let k = c.before.before.before in
-    let p = k.before.requires in
-    let a = k.before.args in
+    let p = k.requires in
+    let a = k.args in
     let s = a.book.now in
-    let other : a.at < a.count → first_at gens_table s a.start a.at ≡ a.bucket → ⊥ = λ l e. c.if2.false (c.before.be64.ensures ∙ sym (first_be gens_table s (bytes k) (a.start + a.at * 9) 8 refl) ∙ e) in
+    let other : a.at < a.count → first_at gens_table s a.start a.at ≡ a.bucket → ⊥ = λ l e. c.if-be64-bucket.false (c.be64.ensures ∙ sym (first_be gens_table s (bytes k) (a.start + a.at * 9) 8 refl) ∙ e) in
     (rw (found_none whole_rest gens_table s a.count a.start a.bucket a.at p.1 p.0 other), place_same p.0 a.bucket a.at p.1 other)
 
 pub next_gen_spec : {M : Type 1} → statement M

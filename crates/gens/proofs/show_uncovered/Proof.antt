@@ -16,29 +16,29 @@ use native.Mathlib.Omega.{arith}
 use Rattle.gens.proofs.show_uncovered.Statement.{statement}
 use Rattle.gens.proofs.show_uncovered.Tie as tie
 
-abbrev invariant_loop : tie.invariant-loop
+abbrev invariant_loop : tie.invariant-loop-left
 invariant_loop book start count work n out₀ counts₀ covered c₀ found₀ left₀ p₀ out counts c found left p =
     (found + left ≤ count) × (p + left * 9 ≤ length book) × (c.covered ≡ has (pair c.block 0) (pairs_of work n))
     × Begun (each (λ _ e. not_covered (pairs_of work n) e.0 e.1) 0 (gens_from book count start)) (sink out₀ counts₀) (each (λ _ e. not_covered (pairs_of work n) e.0 e.1) 0 (gens_from book left p)) found (sink out counts)
 
-abbrev decreases_loop : tie.decreases-loop
+abbrev decreases_loop : tie.decreases-loop-left
 decreases_loop book start count work n out₀ counts₀ covered c₀ found₀ left₀ p₀ out counts c found left p = left
 
-loop_again : tie.Need-loop-preserved invariant_loop decreases_loop
+loop_again : tie.Need-loop-left-preserved invariant_loop decreases_loop
 loop_again c =
-    let a = c.before.before.before.before.before.before.before.before.before.before.before.before.before.before.before.before.before.args in
+    let a = c.args in
     let s = a.book.now in
     let xs = pairs_of a.work.now a.n in
-    let l = c.before.before.before.before.before.before.before.before.before.before.before.loop in
-    let cover = c.before.before.before.before.before.before.before.cover-of.ensures in
-    let bytes : (j : ℕ) → get_or s j 0 < 256 = λ j. (c.before.before.before.before.before.before.before.before.before.before.before.before.before.before.before.before.shared-slice-known.given j).fits in
-    let bucket = c.before.before.before.before.before.before.before.before.before.be64.ensures ∙ sym (first_be gens_table s bytes l.p 8 refl) in
-    let generation = c.before.before.before.before.before.before.before.before.byte.ensures.0 ∙ sym (be_one s (l.p + 8)) ∙ sym (rest_be gens_table s bytes l.p 8 refl 1 refl) in
-    let shown = added_as (not_covered_lem xs _ _ bucket generation cover.1) c.before.before.before.before.uncovered-at.ensures.0 in (
+    let l = c.loop-left in
+    let cover = c.cover_of-c.ensures in
+    let bytes : (j : ℕ) → get_or s j 0 < 256 = λ j. (c.shared_slice_known-1.given j).fits in
+    let bucket = c.be64-bucket.ensures ∙ sym (first_be gens_table s bytes l.p 8 refl) in
+    let generation = c.byte-generation.ensures.0 ∙ sym (be_one s (l.p + 8)) ∙ sym (rest_be gens_table s bytes l.p 8 refl 1 refl) in
+    let shown = added_as (not_covered_lem xs _ _ bucket generation cover.1) c.uncovered_at-found.ensures.0 in (
       omega arith,
       omega arith,
       cover.1 ∙ ap (λ (k : ℕ). has (pair k 0) xs) (sym cover.0),
-      turn l.invariant.3 shown (each_next (λ _ e. not_covered xs e.0 e.1) (λ i e. refl) (entries_step whole_rest gens_table s l.left l.p c.before.before.before.before.before.before.before.before.before.before.loop-test.true)),
+      turn l.invariant.3 shown (each_next (λ _ e. not_covered xs e.0 e.1) (λ i e. refl) (entries_step whole_rest gens_table s l.left l.p c.loop-left-test.true)),
     )
 
 pub show_uncovered_spec : {M : Type 1} → statement M
@@ -48,16 +48,16 @@ show_uncovered_spec =
     invariant_loop
     decreases_loop
     (λ c κs. search rules)
-    (λ c. (omega arith, c.before.before.before.before.before.requires.0.inside, c.has-pair.ensures, first))
+    (λ c. (omega arith, c.requires.0.inside, c.has_pair-covered.ensures, first))
     (λ c κs. search rules)
     (λ c. search rules)
     (λ c κs. search rules)
-    (λ c κs. (c.before.before.before.before.before.before.before.before.before.requires.2, c.before.before.before.before.before.before.before.before.before.requires.3, c.before.before.before.loop.invariant.2))
+    (λ c κs. (c.requires.2, c.requires.3, c.loop-left.invariant.2))
     (λ c κs. search rules)
     (λ c. search rules)
     (λ c. search rules)
     (λ c. search rules)
     loop_again
-    (λ c. begun_length c.before.loop.invariant.3)
-    (λ c. begun_counts c.before.loop.invariant.3)
-    (λ c. (last c.before.loop.invariant.3 (each_none _ _ (entries_none whole_rest gens_table _ _ (omega arith))), omega arith)))
+    (λ c. begun_length c.loop-left.invariant.3)
+    (λ c. begun_counts c.loop-left.invariant.3)
+    (λ c. (last c.loop-left.invariant.3 (each_none _ _ (entries_none whole_rest gens_table _ _ (omega arith))), omega arith)))

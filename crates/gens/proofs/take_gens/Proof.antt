@@ -10,23 +10,23 @@ use native.Mathlib.Omega.{arith}
 use Rattle.gens.proofs.take_gens.Statement.{statement}
 use Rattle.gens.proofs.take_gens.Tie as tie
 
-returns : tie.Need-returns
+returns : tie.Need-returns-then-is_gens
 returns c =
-    let a = c.before.before.before.before.before.before.before.before.before.before.before.before.before.before.before.before.before.before.before.args in
-    let test = c.before.before.before.before.before.before.before.before.before.before.before.before.before.before.is-gens.ensures in
-    let taken = c.before.before.before.before.before.before.before.before.before.before.before.before.before.if1.true in
-    let found = c.before.before.before.before.before.before.before.before.before.before.key-gens.ensures in
-    let yes = cover_yes a.h.device a.p _ (sym test ∙ taken) c.before.before.before.before.key-offset.ensures in (
+    let a = c.args in
+    let test = c.is_gens.ensures in
+    let taken = c.if-is_gens.true in
+    let found = c.key_gens-found.ensures in
+    let yes = cover_yes a.h.device a.p _ (sym test ∙ taken) c.key_offset.ensures in (
       added_only test taken found.0,
-      (c.before.before.before.put-pair.ensures.0 ∙ ap (λ (l : List ℕ). pairs_of a.work.now a.c.put ++ l) yes, (found.1, omega arith)),
+      (c.put_pair.ensures.0 ∙ ap (λ (l : List ℕ). pairs_of a.work.now a.c.put ++ l) yes, (found.1, omega arith)),
     )
 
-returns_2 : tie.Need-returns-2
+returns_2 : tie.Need-returns
 returns_2 c =
-    let a = c.before.before.before.before.before.before.args in
-    let test = c.before.is-gens.ensures in
-    let no = cover_no a.h.device a.p _ (sym test ∙ c.if1.false) in
-    (added_not _ test c.if1.false, (rw (no, append-nil (pairs_of a.work.now a.c.put)), (omega arith, omega arith)))
+    let a = c.args in
+    let test = c.is_gens.ensures in
+    let no = cover_no a.h.device a.p _ (sym test ∙ c.if-is_gens.false) in
+    (added_not _ test c.if-is_gens.false, (rw (no, append-nil (pairs_of a.work.now a.c.put)), (omega arith, omega arith)))
 
 pub take_gens_spec : {M : Type 1} → statement M
 take_gens_spec =
@@ -36,7 +36,7 @@ take_gens_spec =
     (λ c κs. search rules)
     (λ c κs. search rules)
     (λ c κs. search rules)
-    (λ c. omega (arith, c.before.before.before.before.before.before.before.before.before.before.before.before.before.before.before.before.before.before.before.requires.3, c.before.before.before.before.before.before.before.before.before.before.before.before.before.before.before.before.before.before.before))
+    (λ c. omega (arith, c.requires.3, c.before.before.before.before.before.before.before.before.before.before.before.before.before.before.before.before.before.before.before))
     (λ c. search rules)
     (λ c. search rules)
     (λ c. search rules)

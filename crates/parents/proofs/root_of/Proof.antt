@@ -9,10 +9,10 @@ use Rattle.parents.proofs.Climb.{Climbed, climbed_start, climbed_more, climbed_r
 use Rattle.parents.proofs.root_of.Statement.{statement}
 use Rattle.parents.proofs.root_of.Tie as tie
 
-abbrev invariant_loop : tie.invariant-loop
+abbrev invariant_loop : tie.invariant-loop-p
 invariant_loop book work source id at₀ near₀ links₀ at near links = (near ≤ reach_of source) × Climbed (parents_of (book_of book)) id at links
 
-abbrev decreases_loop : tie.decreases-loop
+abbrev decreases_loop : tie.decreases-loop-p
 decreases_loop book work source id at₀ near₀ links₀ at near links = 1024 - links
 
 pub root_of_spec : {M : Type 1} → statement M
@@ -22,7 +22,7 @@ root_of_spec =
     invariant_loop
     decreases_loop
     (λ c κs. search rules)
-    (λ c. (omega (arith, c.reach.ensures), climbed_start _ _))
+    (λ c. (omega (arith, c.reach-near.ensures), climbed_start _ _))
     (λ c κs. search rules)
     (λ c. search rules)
     (λ c. search rules)

@@ -11,8 +11,8 @@ returns : tie.Need-returns
 unfolding snap_states
 returns c = (
   added_as
-      (snapshot_findings _ _ _ c.before.before.before.before.before.before.before.before.before.before.before.before.before.before.before.before.before.before.word-or-zero.ensures c.before.before.before.before.before.before.before.before.before.before.before.before.before.before.before.before.state-distance.ensures c.before.before.before.before.before.before.before.before.before.before.before.before.before.before.state-required.ensures)
-      (added_more c.before.before.before.before.before.before.before.before.before.before.before.emit-if.ensures.0 c.before.before.before.before.emit-if2.ensures.0),
+      (snapshot_findings _ _ _ c.word_or_zero-word.ensures c.state_distance-nearest.ensures c.state_required-required.ensures)
+      (added_more c.emit_if-n.ensures.0 c.emit_if.ensures.0),
   omega arith,
 )
 

@@ -8,23 +8,23 @@ use native.Mathlib.Omega.{arith}
 use Rattle.states.proofs.check_state_words.Statement.{statement}
 use Rattle.states.proofs.check_state_words.Tie as tie
 
-returns : tie.Need-returns
+returns : tie.Need-returns-then-h-value
 unfolding is
 returns c =
-    let a = c.before.before.before.before.before.before.before.before.before.before.before.before.before.args in
-    (begin (added_as (of_snapshot _ _ (bkey a.h a.value.now) c.before.before.before.before.before.before.before.if1.true) c.before.before.before.before.check-snapshot-state.ensures.0), omega arith)
+    let a = c.args in
+    (begin (added_as (of_snapshot _ _ (bkey a.h a.value.now) c.if-h-value.true) c.check_snapshot_state.ensures.0), omega arith)
 
-returns_2 : tie.Need-returns-2
+returns_2 : tie.Need-returns-then-h
 unfolding is
 returns_2 c =
-    let a = c.before.before.before.before.before.before.before.before.before.before.before.before.before.before.before.before.args in
-    (begin (added_as (of_subvolume _ _ (bkey a.h a.value.now) c.before.before.before.before.before.before.before.before.before.before.if1.false c.before.before.before.before.before.before.before.if2.true) c.before.before.before.before.check-subvolume.ensures.0), omega arith)
+    let a = c.args in
+    (begin (added_as (of_subvolume _ _ (bkey a.h a.value.now) c.if-h-value.false c.if-h.true) c.check_subvolume.ensures.0), omega arith)
 
-returns_3 : tie.Need-returns-3
+returns_3 : tie.Need-returns
 unfolding is
 returns_3 c =
-    let a = c.before.before.before.before.before.before.before.before.before.args in
-    (begin (added_nil (sym (of_neither _ _ (bkey a.h a.value.now) c.before.before.before.if1.false c.if2.false))), omega arith)
+    let a = c.args in
+    (begin (added_nil (sym (of_neither _ _ (bkey a.h a.value.now) c.if-h-value.false c.if-h.false))), omega arith)
 
 pub check_state_words_spec : {M : Type 1} → statement M
 check_state_words_spec =

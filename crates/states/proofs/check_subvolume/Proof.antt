@@ -8,8 +8,8 @@ use Rattle.states.proofs.check_subvolume.Tie as tie
 
 returns : tie.Need-returns
 returns c = (
-  added_as (subvolume_findings _ _ _ c.before.before.before.before.before.before.before.before.before.before.before.before.before.before.before.word-or-zero.ensures c.before.before.before.before.before.before.before.word-or-zero2.ensures)
-      (added_more c.before.before.before.before.before.before.before.before.before.before.before.before.before.before.before.before.before.before.before.before.check-subvolume-state.ensures.0 (added_more c.before.before.before.before.before.before.before.before.before.before.before.before.check-subvolume-word.ensures.0 c.before.before.before.before.emit-if.ensures.0)),
+  added_as (subvolume_findings _ _ _ c.word_or_zero-word.ensures c.word_or_zero-pad.ensures)
+      (added_more c.check_subvolume_state-n.ensures.0 (added_more c.check_subvolume_word-n.ensures.0 c.emit_if.ensures.0)),
   omega arith,
 )
 

@@ -12,8 +12,8 @@ use Rattle.states.proofs.check_subvolume_state.Tie as tie
 returns : tie.Need-returns
 returns c = (
   added_as
-      (ap₂ (λ (a b : Bool). when (a && b) (finding 25 c.before.before.before.before.before.before.before.before.before.before.before.before.args.i 0)) c.before.before.before.before.before.before.before.state-required.ensures (unset _ c.before.before.before.before.before.before.before.before.word-or-zero.ensures))
-      c.before.before.before.before.emit-if.ensures.0,
+      (ap₂ (λ (a b : Bool). when (a && b) (finding 25 c.args.i 0)) c.state_required-required.ensures (unset _ c.word_or_zero-word.ensures))
+      c.emit_if.ensures.0,
   omega arith,
 )
 

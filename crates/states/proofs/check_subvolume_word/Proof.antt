@@ -9,17 +9,17 @@ use native.Mathlib.Omega.{arith}
 use Rattle.states.proofs.check_subvolume_word.Statement.{statement}
 use Rattle.states.proofs.check_subvolume_word.Tie as tie
 
-returns : tie.Need-returns
+returns : tie.Need-returns-then-word-ne0
 unfolding subvol_states
 returns c = (
   added_as
-      (word_findings _ _ _ c.before.before.before.before.before.before.before.before.before.before.before.before.before.before.before.before.before.before.before.before.before.before.before.state-distance.ensures c.before.before.before.before.before.before.before.before.before.before.before.before.before.before.before.before.before.before.before.before.before.state-required.ensures c.before.before.before.before.before.before.before.before.before.before.before.before.before.before.before.before.before.before.before.before.before.before.before.before.before.if1.true)
-      (added_more c.before.before.before.before.before.before.before.before.before.before.before.before.before.before.before.before.before.before.emit-if.ensures.0 (added_more c.before.before.before.before.before.before.before.before.before.before.before.emit-if2.ensures.0 c.before.before.before.before.emit-if3.ensures.0)),
+      (word_findings _ _ _ c.state_distance-near.ensures c.state_required-required.ensures c.if-word-ne0.true)
+      (added_more c.emit_if-n.ensures.0 (added_more c.emit_if-n-then-word-ne0.ensures.0 c.emit_if.ensures.0)),
   omega arith,
 )
 
-returns_2 : tie.Need-returns-2
-returns_2 c = (added_nil (ap (subvolume_word _ _) c.if1.false ∙ sym (no_word _ _)), omega arith)
+returns_2 : tie.Need-returns
+returns_2 c = (added_nil (ap (subvolume_word _ _) c.if-word-ne0.false ∙ sym (no_word _ _)), omega arith)
 
 pub check_subvolume_word_spec : {M : Type 1} → statement M
 check_subvolume_word_spec =

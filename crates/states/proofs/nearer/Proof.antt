@@ -6,19 +6,19 @@ use Rattle.states.specs.StateDistance.{nearer}
 use Rattle.states.proofs.nearer.Statement.{statement}
 use Rattle.states.proofs.nearer.Tie as tie
 
-returns : tie.Need-returns
+returns : tie.Need-returns-then-a-b
 unfolding nearer
 returns c =
-    let x = c.before.before.before.args.a.distance in
-    let y = c.before.before.before.args.b.distance in
-    rw (le-leb x y (omega (arith, c.if1.true))) refl
+    let x = c.args.a.distance in
+    let y = c.args.b.distance in
+    rw (le-leb x y (omega (arith, c.if-a-b.true))) refl
 
-returns_2 : tie.Need-returns-2
+returns_2 : tie.Need-returns
 unfolding nearer
 returns_2 c =
-    let x = c.before.before.before.args.a.distance in
-    let y = c.before.before.before.args.b.distance in
-    rw (lt-leb x y (omega (arith, c.if1.false))) refl
+    let x = c.args.a.distance in
+    let y = c.args.b.distance in
+    rw (lt-leb x y (omega (arith, c.if-a-b.false))) refl
 
 pub nearer_spec : {M : Type 1} → statement M
 nearer_spec =

@@ -8,7 +8,7 @@ use Rattle.types.proofs.check_key_type.Tie as tie
 
 returns : tie.Need-returns
 unfolding check_key_type
-returns c = (rw (← c.before.before.before.before.before.is-foreign.ensures) (begin c.before.before.before.before.emit-if.ensures.0), omega arith)
+returns c = (rw (← c.is_foreign.ensures) (begin c.emit_if.ensures.0), omega arith)
 
 pub check_key_type_spec : {M : Type 1} → statement M
 check_key_type_spec =

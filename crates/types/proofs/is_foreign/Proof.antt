@@ -10,18 +10,18 @@ use native.Mathlib.Omega.{arith}
 use Rattle.types.proofs.is_foreign.Statement.{statement}
 use Rattle.types.proofs.is_foreign.Tie as tie
 
-returns : tie.Need-returns
-returns c = beyond_btrees _ _ c.if1.true
+returns : tie.Need-returns-then-btree-gt-LAST_BTREE
+returns c = beyond_btrees _ _ c.if-btree-gt-LAST_BTREE.true
 
-returns_2 : tie.Need-returns-2
-returns_2 c = beyond_types _ _ (omega arith) c.if2.true
+returns_2 : tie.Need-returns-then-key_type-gt-LAST_BIT
+returns_2 c = beyond_types _ _ (omega arith) c.if-key_type-gt-LAST_BIT.true
 
-returns_3 : tie.Need-returns-3
+returns_3 : tie.Need-returns
 unfolding mask_of with_bit in_mask key_types_anywhere
 returns_3 c =
-    let a = c.before.before.before.before.before.args in
-    let row = ap (λ (mask : ℕ). in_mask mask a.key-type) c.before.before.allowed.ensures in
-    ap₂ (λ (a b : Bool). not a && not b) (c.before.in-mask.ensures ∙ row) c.in-mask2.ensures
+    let a = c.args in
+    let row = ap (λ (mask : ℕ). in_mask mask a.key-type) c.allowed.ensures in
+    ap₂ (λ (a b : Bool). not a && not b) (c.in_mask.ensures ∙ row) c.in_mask-2.ensures
     ∙ masked a.btree a.key-type (omega arith) (omega arith)
 
 pub is_foreign_spec : {M : Type 1} → statement M
