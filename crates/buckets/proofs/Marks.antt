@@ -144,12 +144,12 @@ module _ (s : List ℕ) (start count : ℕ) where
       let same : length n ≡ length m = ap length is ∙ simp length-set in
       ⊎_elim
       (λ (q : k₀ ≡ k). rw (← q, is) (
-        get_or_set_other first (2 * k₀ + 1) (2 * k₀) u.first 0 (omega arith) ∙ get_or_set_same m (2 * k₀) u.count 0 (omega arith) ∙ ap (λ (v : Used). v.count) e,
-        get_or_set_same first (2 * k₀ + 1) u.first 0 (simp length-set (omega arith)) ∙ ap (λ (v : Used). v.first) e,
+        get_or-set_other first (2 * k₀ + 1) (2 * k₀) u.first 0 (omega arith) ∙ get_or-set_same m (2 * k₀) u.count 0 (omega arith) ∙ ap (λ (v : Used). v.count) e,
+        get_or-set_same first (2 * k₀ + 1) u.first 0 (simp length-set (omega arith)) ∙ ap (λ (v : Used). v.first) e,
       ))
       (λ (q : k₀ < k). rw is (
-        get_or_set_other first (2 * k₀ + 1) (2 * k) u.first 0 (omega arith) ∙ get_or_set_other m (2 * k₀) (2 * k) u.count 0 (omega arith) ∙ (f k (omega arith) (omega arith)).0,
-        get_or_set_other first (2 * k₀ + 1) (2 * k + 1) u.first 0 (omega arith) ∙ get_or_set_other m (2 * k₀) (2 * k + 1) u.count 0 (omega arith) ∙ (f k (omega arith) (omega arith)).1,
+        get_or-set_other first (2 * k₀ + 1) (2 * k) u.first 0 (omega arith) ∙ get_or-set_other m (2 * k₀) (2 * k) u.count 0 (omega arith) ∙ (f k (omega arith) (omega arith)).0,
+        get_or-set_other first (2 * k₀ + 1) (2 * k + 1) u.first 0 (omega arith) ∙ get_or-set_other m (2 * k₀) (2 * k + 1) u.count 0 (omega arith) ∙ (f k (omega arith) (omega arith)).1,
       ))
       (eq-or-lt_of_le l)
 

@@ -58,11 +58,13 @@ between word s t = omega (arith, low_between 32 s word t, low_sym 32 s word)
 
 far_each : (n s t : ℕ) (ts : List ℕ) → far_from n s ts ≡ true → Memᴰ t ts → n ≤ distance s t
 unfolding far_from
+far_each n s t [] e m = elim m [ ]
 far_each n s t (u ∷ ts) e (Memᴰ.head h) = rw h (leb-true n (distance s u) (both_true (leb n (distance s u)) (far_from n s ts) e).0)
 far_each n s t (u ∷ ts) e (Memᴰ.tail m) = far_each n s t ts (both_true (leb n (distance s u)) (far_from n s ts) e).1 m
 
 apart_each : (n s t : ℕ) (states : List ℕ) → apart n states ≡ true → Memᴰ s states → Memᴰ t states → (s ≡ t → ⊥) → n ≤ distance s t
 unfolding apart
+apart_each n s t [] e m l other = elim m [ ]
 apart_each n s t (u ∷ us) e (Memᴰ.head h) (Memᴰ.head k) other = absurd (other (h ∙ sym k))
 apart_each n s t (u ∷ us) e (Memᴰ.head h) (Memᴰ.tail m) other = rw h (far_each n u t us (both_true (far_from n u us) (apart n us) e).0 m)
 apart_each n s t (u ∷ us) e (Memᴰ.tail m) (Memᴰ.head k) other = rw (k, low_sym 32 s u) (far_each n u s us (both_true (far_from n u us) (apart n us) e).0 m)
@@ -146,6 +148,7 @@ every_apart (l ∷ ls) = apart 13 l && every_apart ls
 
 one_apart : (ls : List (List ℕ)) (l : List ℕ) → every_apart ls ≡ true → Memᴰ l ls → apart 13 l ≡ true
 unfolding every_apart
+one_apart [] l e m = elim m [ ]
 one_apart (k ∷ ks) l e (Memᴰ.head h) = rw h (both_true (apart 13 k) (every_apart ks) e).0
 one_apart (k ∷ ks) l e (Memᴰ.tail m) = one_apart ks l (both_true (apart 13 k) (every_apart ks) e).1 m
 

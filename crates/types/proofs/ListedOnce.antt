@@ -1,6 +1,6 @@
 -- The table lists each btree once, and each type once in a row and those anywhere together: one computed test.
 use Prim.Native.Nat.{ℕ, ◌≤◌}
-use mathlib.Core.Path.{◌≡◌, refl, sym, subst, ◌∙◌}
+use mathlib.Core.Path.{◌≡◌, refl, sym, ap, subst, ◌∙◌}
 use mathlib.Core.Bool.{Bool, true, false, not, ◌&&◌, ◌||◌}
 use mathlib.Core.List.{List, [], ◌∷◌, ◌++◌, map, Memᴰ}
 use native.Mathlib.Omega.{arith}
@@ -31,7 +31,7 @@ once x [] e = omega arith
 once x (y ∷ ys) e =
     let both = both_true (not (has y ys)) (none_twice ys) e in
     same_or_not x y
-    (λ same. rw (eq-eqb x y same, same, absent_count y ys (not-true (has y ys) both.0)) (omega arith))
+    (λ same. rw (eq-eqb x y same) (omega (arith, ap (λ (z : ℕ). count z ys) same, absent_count y ys (not-true (has y ys) both.0))))
     (λ other. rw (ne_eqb x y other) (omega (arith, once x ys both.1)))
 
 -- of two lists, one after the other
@@ -58,6 +58,7 @@ each_once (row ∷ rows) anywhere = none_twice (row.1 ++ anywhere) && each_once 
 row_once : (row : ℕ × List ℕ) (rows : List (ℕ × List ℕ)) (anywhere : List ℕ) → each_once rows anywhere ≡ true → Memᴰ row rows
     → none_twice (row.1 ++ anywhere) ≡ true
 unfolding each_once
+row_once row [] anywhere e m = elim m [ ]
 row_once row (r ∷ rs) anywhere e (Memᴰ.head h) = rw h (both_true (none_twice (r.1 ++ anywhere)) (each_once rs anywhere) e).0
 row_once row (r ∷ rs) anywhere e (Memᴰ.tail m) = row_once row rs anywhere (both_true (none_twice (r.1 ++ anywhere)) (each_once rs anywhere) e).1 m
 

@@ -12,11 +12,11 @@ use Rattle.ancestors.proofs.Walked.{Walked, walked_start, walked_more, walked_ro
 use Rattle.ancestors.proofs.ancestors_of.Statement.{statement}
 use Rattle.ancestors.proofs.ancestors_of.Tie as tie
 
-abbrev invariant_loop : tie.invariant-loop
+abbrev invariant_loop : tie.invariant-loop-p
 invariant_loop book work source near id hints₀ ids₀ len₀ at₀ far below₀ from₀ hints ids len at below from =
     (from ≤ reach_of source) × Walked (parents_of (book_of book)) id ids len at × (length hints ≡ length hints₀)
 
-abbrev decreases_loop : tie.decreases-loop
+abbrev decreases_loop : tie.decreases-loop-p
 decreases_loop book work source near id hints₀ ids₀ len₀ at₀ far below₀ from₀ hints ids len at below from = 1024 - len
 
 pub ancestors_of_spec : {M : Type 1} → statement M

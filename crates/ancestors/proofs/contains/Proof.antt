@@ -12,13 +12,13 @@ use native.Mathlib.Omega.{arith}
 use Rattle.ancestors.proofs.contains.Statement.{statement}
 use Rattle.ancestors.proofs.contains.Tie as tie
 
-abbrev invariant_loop : tie.invariant-loop
+abbrev invariant_loop : tie.invariant-loop-i
 invariant_loop ids len a b c found₀ i₀ found i = (i ≤ len) × (found.a ≡ has a (take i ids)) × (found.b ≡ has b (take i ids)) × (found.c ≡ has c (take i ids))
 
-abbrev decreases_loop : tie.decreases-loop
+abbrev decreases_loop : tie.decreases-loop-i
 decreases_loop ids len a b c found₀ i₀ found i = len - i
 
-loop_holds : tie.Need-loop-init invariant_loop decreases_loop
+loop_holds : tie.Need-loop-i-init invariant_loop decreases_loop
 unfolding has
 loop_holds c = (omega arith, refl, refl, refl)
 
@@ -26,17 +26,17 @@ loop_holds c = (omega arith, refl, refl, refl)
 more : (x : ℕ) (ids : List ℕ) (i : ℕ) {b : Bool} → i < length ids → b ≡ has x (take i ids) → b || eqb x (get_or ids i 0) ≡ has x (take (i + 1) ids)
 more x ids i h e = ap (λ (b : Bool). b || eqb x (get_or ids i 0)) e ∙ has_more x ids i h
 
-loop_again : tie.Need-loop-preserved invariant_loop decreases_loop
+loop_again : tie.Need-loop-i-preserved invariant_loop decreases_loop
 loop_again c =
-    let a = c.before.before.before.before.before.before.args in
-    let l = c.before.before.before.before.before.loop in
+    let a = c.args in
+    let l = c.loop-i in
     let h : l.i < length a.ids.now = omega arith in
     (omega arith, more a.a a.ids.now l.i h l.invariant.1, more a.b a.ids.now l.i h l.invariant.2, more a.c a.ids.now l.i h l.invariant.3)
 
 returns : tie.Need-returns invariant_loop decreases_loop
 returns c =
-    let l = c.before.loop in
-    let all : l.i ≡ c.before.before.args.len = omega arith in
+    let l = c.loop-i in
+    let all : l.i ≡ c.args.len = omega arith in
     rw (← all) (l.invariant.1, l.invariant.2, l.invariant.3)
 
 pub contains_spec : {M : Type 1} → statement M

@@ -4,13 +4,13 @@ use borrow.Author.Rules.{rules}
 use Rattle.ancestors.proofs.is_rooted.Statement.{statement}
 use Rattle.ancestors.proofs.is_rooted.Tie as tie
 
-returns : tie.Need-returns
+returns : tie.Need-returns-in-At
 unfolding is_rooted
-returns c = rw c.enum_told.given.1
+returns c = rw c.in-At.is
 
-returns_2 : tie.Need-returns-2
+returns_2 : tie.Need-returns-in-NoRoot
 unfolding is_rooted
-returns_2 c = rw c.enum-told2.given.1
+returns_2 c = rw c.in-NoRoot.is
 
 pub is_rooted_spec : {M : Type 1} → statement M
 is_rooted_spec =

@@ -14,20 +14,19 @@ use Rattle.ancestors.proofs.line_beside.Statement.{statement}
 use Rattle.ancestors.proofs.line_beside.Tie as tie
 
 -- what the test for a child says
-test : (c : tie.Then2) → let l = c.before.before.before.before.before.before.before.before.before.args.line in
-    (is_rooted l.root ≡ true) × (0 < l.len) × (get_or c.before.before.before.before.before.before.before.before.before.args.ids.now 0 0 ≡ c.before.before.before.before.before.before.before.before.before.args.id)
+test : (c : tie.Then-rooted-line) → let l = c.args.line in
+    (is_rooted l.root ≡ true) × (0 < l.len) × (get_or c.args.ids.now 0 0 ≡ c.args.id)
 test c =
-    let whole = both_true _ _ c.if2.true in
+    let whole = both_true _ _ c.if-rooted-line.true in
     let both = both_true _ _ whole.0 in
-    (sym c.before.before.before.is-rooted.ensures ∙ both.0, ltb-true _ _ both.1, eqb-true _ _ whole.1)
+    (sym c.is_rooted-rooted.ensures ∙ both.0, ltb-true _ _ both.1, eqb-true _ _ whole.1)
 
-returns_2 : tie.Need-returns-2
+returns_2 : tie.Need-returns-then-rooted-line
 returns_2 c =
     let k = c.before.before.before.before in
-    let t = k.before.before.before.before.before.before.before.before.before in
     let said = test k in
-    let taken = c.before.take-first.ensures in
-    (lined_up _ t.requires.1 said.0 said.1 said.2 taken.0 taken.1 c.with-links.ensures, (refl, t.requires.2))
+    let taken = c.take_first.ensures in
+    (lined_up _ k.requires.1 said.0 said.1 said.2 taken.0 taken.1 c.with_links-root.ensures, (refl, k.requires.2))
 
 pub line_beside_spec : {M : Type 1} → statement M
 line_beside_spec =
@@ -40,7 +39,7 @@ line_beside_spec =
     (λ c κs.
     let t = c.before.before.before.before.before.before.before.before.before.before.before in
     (omega (arith, (test c.before.before).1, lined_few _ t.requires.1), t.requires.1.full))
-    (λ c. let t = c.before.before.before.before.before.before.before.before.before.before.before.before in omega (arith, lined_few _ t.requires.1))
+    (λ c. let t = c in omega (arith, lined_few _ t.requires.1))
     (λ c κs. search rules)
     returns_2
     (λ c κs. search rules)

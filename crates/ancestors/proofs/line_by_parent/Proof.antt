@@ -8,26 +8,17 @@ use borrow.Author.Rules.{rules}
 use Rattle.ancestors.proofs.line_by_parent.Statement.{statement}
 use Rattle.ancestors.proofs.line_by_parent.Tie as tie
 
-returns : tie.Need-returns
+returns : tie.Need-returns-in_default
 returns c =
-    let f = c.before.before in
-    let t = f.before.before.before.before in
-    (lined_absent _ _ t.requires.1.full _ _ (absent_is _ _ f.parent_in_lem.ensures.0 c.enum_told.given.1), (refl, f.parent_in_lem.ensures.1))
+    (lined_absent _ _ c.requires.1.full _ _ (absent_is _ _ c.parent_in-found.ensures.0 c.in_default.is), (refl, c.parent_in-found.ensures.1))
 
-returns_2 : tie.Need-returns-2
+returns_2 : tie.Need-returns-then-p-eq0
 returns_2 c =
-    let k = c.before.before in
-    let f = k.before.before in
-    let t = f.before.before.before.before in
-    (lined_top _ _ t.requires.1.full _ _ (top_is _ _ f.parent_in_lem.ensures.0 k.parent.given.1 c.if1.true), (refl, f.parent_in_lem.ensures.1))
+    (lined_top _ _ c.requires.1.full _ _ (top_is _ _ c.parent_in-found.ensures.0 c.in-Is.is c.if-p-eq0.true), (refl, c.parent_in-found.ensures.1))
 
-line_under_requires : tie.Need-line-under-requires
+line_under_requires : tie.Need-line_under-requires
 line_under_requires c κs =
-    let e = c.before.before in
-    let k = e.before.before in
-    let f = k.before.before in
-    let t = f.before.before.before.before in
-    ((t.requires.0, t.requires.1, f.parent_in_lem.ensures.1), (word_is _ (sym f.parent_in_lem.ensures.0 ∙ k.parent.given.1), omega (arith, e.if1.false)))
+    ((c.requires.0, c.requires.1, c.parent_in-found.ensures.1), (word_is _ (sym c.parent_in-found.ensures.0 ∙ c.in-Is.is), omega (arith, c.if-p-eq0.false)))
 
 pub line_by_parent_spec : {M : Type 1} → statement M
 line_by_parent_spec =

@@ -12,4 +12,4 @@ line_of_spec =
     (tie.spec
     (λ c κs. search rules)
     (λ c. search rules)
-    (λ c. (lined_new _ _ _ c.before.before.before.ancestors-of.ensures, (refl, omega arith))))
+    (λ c. (lined_new _ _ _ c.ancestors_of-above.ensures, (refl, omega arith))))

@@ -12,22 +12,15 @@ use borrow.Author.Rules.{rules}
 use Rattle.ancestors.proofs.line_under.Statement.{statement}
 use Rattle.ancestors.proofs.line_under.Tie as tie
 
--- the link to the parent
-up : (c : tie.Start) → let a = c.args in link (parents_of (book_of a.book.now)) a.id ≡ some a.p
-up c = link_to _ _ c.requires.1.0 (λ e. omega (arith, c.requires.1.1))
-
-returns : tie.Need-returns
+returns : tie.Need-returns-then-p-line
 returns c =
-    let m = c.before.before.before in
-    let t = m.before.before.before.before.before.before in
-    let put = c.before.put_first.ensures in
-    (lined_down _ t.requires.0.1 (up t) m.before.if1.true m.one-longer.ensures put.0 put.1 c.root_below.ensures, (refl, t.requires.0.2))
+    let put = c.put_first.ensures in
+    (lined_down _ c.requires.0.1 (link_to _ _ c.requires.1.0 (λ e. omega (arith, c.requires.1.1))) c.if-p-line.true c.one_longer-len.ensures put.0 put.1 c.root_below-root.ensures, (refl, c.requires.0.2))
 
-returns_2 : tie.Need-returns-2
+returns_2 : tie.Need-returns-then-len-ids
 returns_2 c =
-    let t = c.before.before.before.before.before.before.before in
-    let both = both_true _ _ c.if2.true in
-    (lined_beside _ t.requires.0.1 (up t) (ltb-true _ _ both.0) (eqb-true _ _ both.1), (refl, t.requires.0.2))
+    let both = both_true _ _ c.if-len-ids.true in
+    (lined_beside _ c.requires.0.1 (link_to _ _ c.requires.1.0 (λ e. omega (arith, c.requires.1.1))) (ltb-true _ _ both.0) (eqb-true _ _ both.1), (refl, c.requires.0.2))
 
 pub line_under_spec : {M : Type 1} → statement M
 line_under_spec =

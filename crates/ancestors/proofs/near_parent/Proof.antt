@@ -4,8 +4,8 @@ use native.Mathlib.Omega.{arith}
 use Rattle.ancestors.proofs.near_parent.Statement.{statement}
 use Rattle.ancestors.proofs.near_parent.Tie as tie
 
-cast_hint : tie.Need-overflow-cast-hint
-cast_hint c = omega (arith, (c.shared-slice-known.given c.before.before.args.here).fits)
+cast_hint : tie.Need-overflow_cast-hint
+cast_hint c = omega (arith, (c.shared_slice_known-1.given c.args.here).fits)
 
 pub near_parent_spec : {M : Type 1} → statement M
 near_parent_spec =

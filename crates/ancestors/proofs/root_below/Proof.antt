@@ -6,17 +6,17 @@ use borrow.Author.Rules.{rules}
 use Rattle.ancestors.proofs.root_below.Statement.{statement}
 use Rattle.ancestors.proofs.root_below.Tie as tie
 
-returns : tie.Need-returns
+returns : tie.Need-returns-in_default
 unfolding root_below
-returns c = rw c.enum_told.given.1
+returns c = rw c.in_default.is
 
-returns_2 : tie.Need-returns-2
+returns_2 : tie.Need-returns-then-links-lt1024
 unfolding root_below
-returns_2 c = rw (c.before.before.root.given.1, lt-ltb _ _ c.if1.true, add-one _)
+returns_2 c = rw (c.in-At.is, lt-ltb _ _ c.if-links-lt1024.true, add-one _)
 
-returns_3 : tie.Need-returns-3
+returns_3 : tie.Need-returns
 unfolding root_below
-returns_3 c = rw (c.before.before.root.given.1, le-ltb _ _ c.if1.false)
+returns_3 c = rw (c.in-At.is, le-ltb _ _ c.if-links-lt1024.false)
 
 pub root_below_spec : {M : Type 1} → statement M
 root_below_spec =

@@ -9,18 +9,18 @@ use native.Mathlib.Omega.{arith}
 use Rattle.ancestors.proofs.take_first.Statement.{statement}
 use Rattle.ancestors.proofs.take_first.Tie as tie
 
-abbrev invariant_loop : tie.invariant-loop
+abbrev invariant_loop : tie.invariant-loop-i
 invariant_loop ids₀ end i₀ ids i = (i ≤ end) × (ids ≡ filled (drop 1 ids₀) ids₀ i)
 
-abbrev decreases_loop : tie.decreases-loop
+abbrev decreases_loop : tie.decreases-loop-i
 decreases_loop ids₀ end i₀ ids i = end - i
 
-loop_again : tie.Need-loop-preserved invariant_loop decreases_loop
+loop_again : tie.Need-loop-i-preserved invariant_loop decreases_loop
 loop_again c =
-    let a = c.before.before.before.args in
-    let l = c.before.before.loop in
+    let a = c.args in
+    let l = c.loop-i in
     let xs = a.ids.now in
-    let full = c.before.before.before.requires.1 in
+    let full = c.requires.1 in
     let rest : length (drop 1 xs) ≡ 1023 = omega (arith, length-drop 1 xs) in
     let turn : 1 + l.i ≡ l.i + 1 = omega arith in
     let next : get_or l.ids (l.i + 1) 0 ≡ get_or (drop 1 xs) l.i 0 =
@@ -29,10 +29,10 @@ loop_again c =
 
 returns : tie.Need-returns invariant_loop decreases_loop
 returns c =
-    let a = c.before.before.args in
-    let l = c.before.loop in
+    let a = c.args in
+    let l = c.loop-i in
     let xs = a.ids.now in
-    let full = c.before.before.requires.1 in
+    let full = c.requires.1 in
     let all : a.end ≡ l.i = omega arith in
     let rest : length (drop 1 xs) ≡ 1023 = omega (arith, length-drop 1 xs) in
     (rw (all, l.invariant.1) (filled_take (drop 1 xs) xs l.i (omega arith)), rw l.invariant.1 (filled_length (drop 1 xs) xs l.i (omega arith) (omega arith) ∙ full))

@@ -37,7 +37,7 @@ free_space_spec =
     (λ c. search rules)
     (λ c. search rules)
     show_gaps_requires
-    (λ c. omega (arith, c.all_runs-runs.ensures.1.1.0, c.show_gaps.ensures.1, c.before.before.before.before.before.before.before.before.before.before.before.before.before.before.before.before.before.before.before.before.before.before.before.before.before.before.before))
+    (λ c. omega (arith, c.all_runs-runs.ensures.1.1.0, c.show_gaps.ensures.1, c.requires))
     (λ c. search rules)
     (λ c. search rules)
     (λ c. search rules)

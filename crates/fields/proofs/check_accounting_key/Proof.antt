@@ -11,13 +11,13 @@ use Rattle.fields.proofs.check_accounting_key.Tie as tie
 
 returns : tie.Need-returns-then-not-kind
 unfolding check_accounting_key accounting_kind
-returns c = (added_not _ refl (not-true _ c.if-not-kind.true), omega arith)
+returns c = (added_not _ refl c.if-not-kind.true, omega arith)
 
 returns_2 : tie.Need-returns
 unfolding accounting_kind accounting_position_bytes
 returns_2 c = (
   added_as
-      (accounting_found _ _ (not-false _ c.if-not-kind.false) c.accounting_position_bytes-bytes.ensures c.junk_at_end.ensures
+      (accounting_found _ _ c.if-not-kind.false c.accounting_position_bytes-bytes.ensures c.junk_at_end.ensures
       c.replicas_entry_refused.ensures c.counters_bad.ensures)
       (added_more c.emit_if-n.ensures.0 (added_more c.emit_if-n-2.ensures.0 c.emit_if.ensures.0)),
   omega arith,

@@ -43,7 +43,7 @@ unfolding check_value is only
 returns_5 c =
     let h = c.args.h in
     let p = c.pair-p.ensures in
-    let rest = c.in_default.rest in (
+    let rest = c.in_default.in_default-own.rest in (
       simp (
         pair_not 20 34 h.btree h.key_type (λ e. rest.0.0.0.1 (p ∙ e)),
         pair_not 1 29 h.btree h.key_type (λ e. rest.0.0.1 (p ∙ e)),

@@ -37,7 +37,7 @@ unfolding minimum_value is
 returns_4 c =
     let h = c.args.h in
     let p = c.pair-p.ensures in
-    simp (pair_not 13 28 h.btree h.key_type (λ e. c.in_default.rest.0.0.1 (p ∙ e)), pair_not 9 22 h.btree h.key_type (λ e. c.in_default.rest.0.1 (p ∙ e)), pair_not 8 21 h.btree h.key_type (λ e. c.in_default.rest.1 (p ∙ e)))
+    simp (pair_not 13 28 h.btree h.key_type (λ e. c.in_default.in_default-own.rest.0.0.1 (p ∙ e)), pair_not 9 22 h.btree h.key_type (λ e. c.in_default.in_default-own.rest.0.1 (p ∙ e)), pair_not 8 21 h.btree h.key_type (λ e. c.in_default.in_default-own.rest.1 (p ∙ e)))
 
 pub minimum_value_spec : {M : Type 1} → statement M
 minimum_value_spec =

@@ -68,7 +68,7 @@ unfolding check_position is when kind_found
 returns_11 c =
     let h = c.args.h in
     let p = c.pair-p.ensures in
-    let rest = c.in_default.rest in
+    let rest = c.in_default.in_default-own.rest in
     λ i. simp (pair_not 1 29 h.btree h.key_type (λ e. rest.0.0.0.0.0.0.0.0.0.1 (p ∙ e)), pair_not 8 21 h.btree h.key_type (λ e. rest.0.0.0.0.0.0.0.0.1 (p ∙ e)), pair_not 9 22 h.btree h.key_type (λ e. rest.0.0.0.0.0.0.0.1 (p ∙ e)), pair_not 7 16 h.btree h.key_type (λ e. rest.0.0.0.0.0.0.1 (p ∙ e)), pair_not 0 15 h.btree h.key_type (λ e. rest.0.0.0.0.0.1 (p ∙ e)), pair_not 17 35 h.btree h.key_type (λ e. rest.0.0.0.0.1 (p ∙ e)), pair_not 15 31 h.btree h.key_type (λ e. rest.0.0.0.1 (p ∙ e)), pair_not 20 34 h.btree h.key_type (λ e. rest.0.0.1 (p ∙ e)), pair_not 13 28 h.btree h.key_type (λ e. rest.0.1 (p ∙ e)), pair_not 3 11 h.btree h.key_type (λ e. rest.1 (p ∙ e)))
 
 pub position_kind_spec : {M : Type 1} → statement M

@@ -18,6 +18,5 @@ size_bad_spec =
     tie.close
     (tie.spec
     returns
-    (λ c. search rules)
     (λ c κs. search rules)
     returns_2)

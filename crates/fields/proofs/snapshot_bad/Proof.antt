@@ -19,6 +19,5 @@ snapshot_bad_spec =
     tie.close
     (tie.spec
     returns
-    (λ c. search rules)
     (λ c κs. search rules)
     returns_2)

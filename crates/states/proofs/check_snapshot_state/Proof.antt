@@ -21,7 +21,6 @@ check_snapshot_state_spec =
     tie.close
     (tie.spec
     (λ c κs. search rule)
-    (λ c. search rule)
     (λ c κs. search rule)
     (λ c. search rule)
     (λ c κs. search rule)

@@ -25,7 +25,6 @@ pub check_subvolume_word_spec : {M : Type 1} → statement M
 check_subvolume_word_spec =
     tie.close
     (tie.spec
-    (λ c. search rule)
     (λ c κs. search rule)
     (λ c. search rule)
     (λ c κs. search rule)

@@ -41,4 +41,4 @@ allowed_spec =
     (λ c. mask_is 26 refl c.in-26.is)
     (λ c. mask_is 27 refl c.in-27.is)
     (λ c. mask_is 28 refl c.in-28.is)
-    (λ c. mask_beyond c.args.btree c.in_default.rest))
+    (λ c. mask_beyond c.args.btree c.in_default.in_default-own.rest))

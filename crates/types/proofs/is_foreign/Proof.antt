@@ -20,9 +20,9 @@ returns_3 : tie.Need-returns
 unfolding mask_of with_bit in_mask key_types_anywhere
 returns_3 c =
     let a = c.args in
-    let row = ap (λ (mask : ℕ). in_mask mask a.key-type) c.allowed.ensures in
+    let row = ap (λ (mask : ℕ). in_mask mask a.key_type) c.allowed.ensures in
     ap₂ (λ (a b : Bool). not a && not b) (c.in_mask.ensures ∙ row) c.in_mask-2.ensures
-    ∙ masked a.btree a.key-type (omega arith) (omega arith)
+    ∙ masked a.btree a.key_type (omega arith) (omega arith)
 
 pub is_foreign_spec : {M : Type 1} → statement M
 is_foreign_spec =
