@@ -12,9 +12,9 @@ pub find_parent_spec : {M : Type 1} → statement M
 find_parent_spec =
     tie.close
     (tie.spec
-    (λ c κs. (c.before.before.requires.1, sorted_by _ _ c.before.before.requires.3.all, omega arith, c.before.before.requires.2))
+    (λ c κs. (c.requires.1, sorted_by _ _ c.requires.3.all, omega arith, c.requires.2))
     (λ c. search rules)
-    (λ c κs. child_at c.before.before.before.before.before.before.requires.3.small (find_held subvolumes c.before.before.before.before.before.before.requires.3 _ _ (sym c.before.before.before.find-place-from.ensures ∙ c.before.found.given.1)))
+    (λ c κs. child_at c.requires.3.small (find_held subvolumes c.requires.3 _ _ (sym c.find_place_from-found.ensures ∙ c.in-Is.is)))
     (λ c. search rules)
-    (λ c. parent_found c.before.before.before.before.before.before.before.requires.0 c.before.before.before.before.before.before.before.requires.3 _ (sym c.before.before.before.before.find-place-from.ensures ∙ c.before.before.found.given.1) c.fs-parent.ensures)
-    (λ c. parent_absent c.before.before.before.before.before.requires.0 c.before.before.before.before.before.requires.3 _ (sym c.before.before.find-place-from.ensures ∙ c.enum_told.given.1)))
+    (λ c. parent_found c.requires.0 c.requires.3 _ (sym c.find_place_from-found.ensures ∙ c.in-Is.is) c.fs_parent.ensures)
+    (λ c. parent_absent c.requires.0 c.requires.3 _ (sym c.find_place_from-found.ensures ∙ c.in-Absent.is)))

@@ -8,7 +8,7 @@ pub has_fs_parent_spec : {M : Type 1} → statement M
 has_fs_parent_spec =
     tie.close
     (tie.spec
-    (λ c. parent_short c.before.before.before.before.before.before.before.requires c.before.before.if1.true c.if2.true)
+    (λ c. parent_short c.requires c.if-f.true c.if-f-lt44.true)
     (λ c κs. search rules)
-    (λ c. parent_long c.before.before.before.before.before.before.before.before.requires c.before.before.before.if1.true c.before.if2.false c.key-word.ensures)
-    (λ c. parent_none c.before.before.before.before.before.requires c.if1.false))
+    (λ c. parent_long c.requires c.if-f.true c.if-f-lt44.false c.key_word.ensures)
+    (λ c. parent_none c.requires c.if-f.false))

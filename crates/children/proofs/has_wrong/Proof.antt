@@ -13,38 +13,37 @@ use native.Mathlib.Omega.{arith}
 use Rattle.children.proofs.has_wrong.Statement.{statement}
 use Rattle.children.proofs.has_wrong.Tie as tie
 
-abbrev invariant_loop : tie.invariant-loop
+abbrev invariant_loop : tie.invariant-loop-i
 invariant_loop book h at work n child₀ i₀ child i =
     (i ≤ n) × Known (book_of book) child × (any_wrong (fs_parents (book_of book)) (pairs_of work n) ≡ any_wrong (fs_parents (book_of book)) (drop i (pairs_of work n)))
 
-abbrev decreases_loop : tie.decreases-loop
+abbrev decreases_loop : tie.decreases-loop-i
 decreases_loop book h at work n child₀ i₀ child i = n - i
 
-loop_holds : tie.Need-loop-init invariant_loop decreases_loop
-loop_holds c = (zero-le, record { parent = c.find-parent.ensures }, refl)
+loop_holds : tie.Need-loop-i-init invariant_loop decreases_loop
+loop_holds c = (zero-le, record { parent = c.find_parent-parent.ensures }, refl)
 
-child_at_requires : tie.Need-child-at-requires invariant_loop decreases_loop
-child_at_requires c κs = let start = c.before.before.before.before.before in (start.requires.0, start.requires.1, c.loop-test.true, start.requires.2, c.before.loop.invariant.1)
+child_at_requires : tie.Need-child_at-child-requires invariant_loop decreases_loop
+child_at_requires c κs = let start = c in (start.requires.0, start.requires.1, c.loop-i-test.true, start.requires.2, c.loop-i.invariant.1)
 
 -- the test is that of pair i
-left : (c : tie.After-is-wrong invariant_loop decreases_loop) → let start = c.before.before.before.before.before.before.before.before in let i = c.before.before.before.before.loop.i in let m = fs_parents (book_of start.args.book.now) in
-    any_wrong m (pairs_of start.args.work.now start.args.n) ≡ c.is-wrong.result || any_wrong m (drop (i + 1) (pairs_of start.args.work.now start.args.n))
+left : (c : tie.After-is_wrong invariant_loop decreases_loop) → let start = c in let i = c.loop-i.i in let m = fs_parents (book_of start.args.book.now) in
+    any_wrong m (pairs_of start.args.work.now start.args.n) ≡ c.is_wrong.result || any_wrong m (drop (i + 1) (pairs_of start.args.work.now start.args.n))
 left c =
-    let start = c.before.before.before.before.before.before.before.before in
-    let loop = c.before.before.before.before.loop in
-    let child = c.before.before.child-at in
-    let m = fs_parents (book_of start.args.book.now) in
-    loop.invariant.2 ∙ wrong_at m start.args.work.now start.args.n loop.i c.before.before.before.loop-test.true (λ k. (c.before.shared-slice-known3.given k).fits)
-    ∙ rw (c.is-wrong.ensures, child.ensures.1.parent, child.ensures.0)
+    let loop = c.loop-i in
+    let child = c.child_at-child in
+    let m = fs_parents (book_of c.args.book.now) in
+    loop.invariant.2 ∙ wrong_at m c.args.work.now c.args.n loop.i c.loop-i-test.true (λ k. (c.shared_slice_known-in-loop-i-1.given k).fits)
+    ∙ rw (c.is_wrong.ensures, child.ensures.1.parent, child.ensures.0)
 
-returns : tie.Need-returns invariant_loop decreases_loop
-returns c = sym (left c.before ∙ rw c.if1.true)
+returns : tie.Need-returns-then-is_wrong invariant_loop decreases_loop
+returns c = sym (left c.before ∙ rw c.if-is_wrong.true)
 
-loop_again : tie.Need-loop-preserved invariant_loop decreases_loop
-loop_again c = (omega arith, c.before.before.before.child-at.ensures.1, left c.before ∙ rw c.if1.false)
+loop_again : tie.Need-loop-i-preserved invariant_loop decreases_loop
+loop_again c = (omega arith, c.child_at-child.ensures.1, left c.before ∙ rw c.if-is_wrong.false)
 
-returns_2 : tie.Need-returns-2 invariant_loop decreases_loop
-returns_2 c = let start = c.before.before.before.before.before in sym (c.before.loop.invariant.2 ∙ wrong_past (fs_parents (book_of start.args.book.now)) start.args.work.now start.args.n c.before.loop.i (omega arith))
+returns_2 : tie.Need-returns invariant_loop decreases_loop
+returns_2 c = let start = c in sym (c.loop-i.invariant.2 ∙ wrong_past (fs_parents (book_of start.args.book.now)) start.args.work.now start.args.n c.loop-i.i (omega arith))
 
 pub has_wrong_spec : {M : Type 1} → statement M
 has_wrong_spec =

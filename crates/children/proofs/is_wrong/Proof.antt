@@ -15,16 +15,16 @@ unfolding wrong_word
 small y (Is parent) h = rw (lt-ltb y (2 ^ 32) h)
 small y Absent h = rw (lt-ltb y (2 ^ 32) h)
 
-returns : tie.Need-returns
-returns c = small c.before.args.second c.before.args.parent c.if1.true
+returns : tie.Need-returns-then-second-lt4294967296
+returns c = small c.args.second c.args.parent c.if-second-lt4294967296.true
 
-returns_2 : tie.Need-returns-2
+returns_2 : tie.Need-returns-in-Is
 unfolding wrong_word
-returns_2 c = let a = c.before.before.before.before.args in rw (c.before.parent.given.1, le-ltb a.second (2 ^ 32) c.before.before.before.if1.false)
+returns_2 c = let a = c.args in rw (c.in-Is.is, le-ltb a.second (2 ^ 32) c.if-second-lt4294967296.false)
 
-returns_3 : tie.Need-returns-3
+returns_3 : tie.Need-returns-in-Absent
 unfolding wrong_word
-returns_3 c = let a = c.before.before.before.args in rw (c.enum_told.given.1, le-ltb a.second (2 ^ 32) c.before.before.if1.false)
+returns_3 c = let a = c.args in rw (c.in-Absent.is, le-ltb a.second (2 ^ 32) c.if-second-lt4294967296.false)
 
 pub is_wrong_spec : {M : Type 1} → statement M
 is_wrong_spec =

@@ -9,19 +9,18 @@ use native.Mathlib.Omega.{arith}
 use Rattle.children.proofs.show_children.Statement.{statement}
 use Rattle.children.proofs.show_children.Tie as tie
 
-returns : tie.Need-returns
+returns : tie.Need-returns-then-has_wrong
 unfolding subvolume_children
 returns c = (
-  more_lent c.before.before.before.before.before.before.before.start_of_lem.result _ _ c.before.before.before.before.before.before.before.start_of_lem.ensures c.before.before.before.before.before.before.before.before.before.before.before.before.before.before.show-missings.ensures.0 c.before.before.before.before.show-wrongs.ensures.0,
-  omega (arith, c.before.before.before.before.before.before.before.before.before.before.before.before.before.before.show-missings.ensures.1, c.before.before.before.before.show-wrongs.ensures.1, c.before.before.before.before.before.before.before.before.before.before.before.before.before.before.before.before.before.before.before.before.before.requires.2),
+  more_lent c.start_of-from.result _ _ c.start_of-from.ensures c.show_missings-missing.ensures.0 c.show_wrongs.ensures.0,
+  omega (arith, c.show_missings-missing.ensures.1, c.show_wrongs.ensures.1, c.requires.2),
 )
 
-returns_2 : tie.Need-returns-2
+returns_2 : tie.Need-returns
 unfolding subvolume_children
 returns_2 c =
-    let start = c.before.before.before.before.before.before.before.before.before.before.before.before.before in
-    let none = wrongs_none start.requires.0 start.requires.3 (sym c.before.has-wrong.ensures ∙ c.if1.false) in
-    (found_as (sym (rw none (append-nil _))) c.before.before.before.before.before.before.show-missings.ensures.0, omega (arith, c.before.before.before.before.before.before.show-missings.ensures.1, start.requires.2))
+    let none = wrongs_none c.requires.0 c.requires.3 (sym c.has_wrong.ensures ∙ c.if-has_wrong.false) in
+    (found_as (sym (rw none (append-nil _))) c.show_missings-missing.ensures.0, omega (arith, c.show_missings-missing.ensures.1, c.requires.2))
 
 pub show_children_spec : {M : Type 1} → statement M
 show_children_spec =
@@ -34,7 +33,7 @@ show_children_spec =
     (λ c. search rules)
     (λ c. search rules)
     (λ c κs. search rules)
-    (λ c. omega (arith, c.before.before.before.before.before.before.before.before.before.before.before.before.before.before.show-missings.ensures.1, c.before.before.before.before.show-wrongs.ensures.1, c.before.before.before.before.before.before.before.before.before.before.before.before.before.before.before.before.before.before.before.before.before))
+    (λ c. omega (arith, c.show_missings-missing.ensures.1, c.show_wrongs.ensures.1, c.before.before.before.before.before.before.before.before.before.before.before.before.before.before.before.before.before.before.before.before.before))
     (λ c. search rules)
     (λ c. search rules)
     returns

@@ -9,10 +9,9 @@ use native.Mathlib.Omega.{arith}
 use Rattle.children.proofs.show_missing.Statement.{statement}
 use Rattle.children.proofs.show_missing.Tie as tie
 
-returns : tie.Need-returns
+returns : tie.Need-returns-then-is_last
 returns c =
-    let start = c.before.before.before.before.before.before.before.before.before.before.before.before.before.before.before.before.before in
-    (added_only c.before.before.before.before.before.before.before.before.before.before.before.before.is_last.ensures c.before.before.before.before.before.before.before.before.before.before.before.if1.true (added_as (missing_one _ _ c.before.before.before.before.before.before.before.before.fs-parent.ensures (entry_there start.requires.0 start.requires.3 c.before.before.before.before.before.before.before.before.fs-parent.result _ (omega (arith, c.before.before.before.before.before.before.before.before)) c.before.before.before.before.before.before.before.has-pair-from.ensures)) c.before.before.before.before.emit-if.ensures.0), omega arith)
+    (added_only c.is_last.ensures c.if-is_last.true (added_as (missing_one _ _ c.fs_parent-parent.ensures (entry_there c.requires.0 c.requires.3 c.fs_parent-parent.result _ (omega (arith, c.before.before.before.before.before.before.before.before)) c.has_pair_from-entry.ensures)) c.emit_if.ensures.0), omega arith)
 
 pub show_missing_spec : {M : Type 1} → statement M
 show_missing_spec =
@@ -25,13 +24,13 @@ show_missing_spec =
     (λ c. search rules)
     (λ c. search rules)
     (λ c. search rules)
-    (λ c κs. child_at c.before.before.before.before.before.before.before.before.requires.3.small (last_held subvolumes c.before.before.before.before.before.before.before.before.args.work.now c.before.before.before.before.before.before.before.before.args.n c.before.before.before.before.before.before.before.before.requires.3 c.before.before.before.before.before.before.before.before.args.i c.before.before.before.before.before.before.before.before.requires.2 (λ k. (c.shared-slice-known4.given k).fits) (sym c.before.before.before.is_last.ensures ∙ c.before.before.if1.true)))
+    (λ c κs. child_at c.requires.3.small (last_held subvolumes c.args.work.now c.args.n c.requires.3 c.args.i c.requires.2 (λ k. (c.shared_slice_known-then-is_last-2-1.given k).fits) (sym c.is_last.ensures ∙ c.if-is_last.true)))
     (λ c. search rules)
     (λ c. search rules)
     (λ c. search rules)
-    (λ c κs. (c.before.before.before.before.before.before.before.before.before.requires.1, sorted_by _ _ c.before.before.before.before.before.before.before.before.before.requires.3.all, omega arith))
+    (λ c κs. (c.requires.1, sorted_by _ _ c.requires.3.all, omega arith))
     (λ c κs. search rules)
     (λ c. search rules)
     (λ c. search rules)
     returns
-    (λ c. (added_not _ c.before.is_last.ensures c.if1.false, omega arith)))
+    (λ c. (added_not _ c.is_last.ensures c.if-is_last.false, omega arith)))

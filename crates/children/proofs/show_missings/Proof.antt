@@ -21,27 +21,26 @@ use Rattle.children.proofs.show_missings.Tie as tie
 unfoldable missing : List ℕ → ℕ × ℕ → List Finding
 missing s e = missing_entry (book_of s).keys (e.0, word 20 (key_at s e.1))
 
-abbrev invariant_loop : tie.invariant-loop
+abbrev invariant_loop : tie.invariant-loop-i
 invariant_loop book h at work n out₀ counts₀ found₀ i₀ out counts found i = Begun (each (λ _ e. missing book e) 0 (last_places 0 (pairs_of work n))) (sink out₀ counts₀) (each (λ _ e. missing book e) 0 (last_places 0 (drop i (pairs_of work n)))) found (sink out counts) × (i ≤ n) × (found ≤ i)
 
-abbrev decreases_loop : tie.decreases-loop
+abbrev decreases_loop : tie.decreases-loop-i
 decreases_loop book h at work n out₀ counts₀ found₀ i₀ out counts found i = n - i
 
-loop_again : tie.Need-loop-preserved invariant_loop decreases_loop
+loop_again : tie.Need-loop-i-preserved invariant_loop decreases_loop
 unfolding missing
 loop_again c =
-    let a = c.before.before.before.before.before.before.before.before.before.before.before.before.before.args in
-    let loop = c.before.before.before.before.before.before.before.before.loop in (
-      turn loop.invariant.0 c.before.before.before.before.show-missing.ensures.0 (each_last a.work.now a.n loop.i c.before.before.before.before.before.before.before.loop-test.true (λ k. (c.before.before.before.before.before.before.before.before.before.before.before.shared-slice-known2.given k).fits) 0 (missing a.book.now)),
+    let a = c.args in
+    let loop = c.loop-i in (
+      turn loop.invariant.0 c.show_missing-found.ensures.0 (each_last a.work.now a.n loop.i c.loop-i-test.true (λ k. (c.shared_slice_known-2-1.given k).fits) 0 (missing a.book.now)),
       omega arith,
-      omega (arith, c.before.before.before.before.show-missing.ensures.1, loop.invariant.2),
+      omega (arith, c.show_missing-found.ensures.1, loop.invariant.2),
     )
 
 returns : tie.Need-returns invariant_loop decreases_loop
 unfolding missing
 returns c =
-    let start = c.before.before.before.before.before.before in
-    (rw (missing_all start.requires.0 start.requires.3) (last c.before.loop.invariant.0 (each_ended (missing start.args.book.now) start.args.work.now start.args.n 0 c.before.loop.i c.loop-test.false)), omega arith)
+    (rw (missing_all c.requires.0 c.requires.3) (last c.loop-i.invariant.0 (each_ended (missing c.args.book.now) c.args.work.now c.args.n 0 c.loop-i.i c.loop-i-test.false)), omega arith)
 
 pub show_missings_spec : {M : Type 1} → statement M
 show_missings_spec =
@@ -50,10 +49,10 @@ show_missings_spec =
     invariant_loop
     decreases_loop
     (λ c. (first, omega arith, omega arith))
-    (λ c κs. (c.before.before.before.before.before.before.before.before.requires.0, c.before.before.before.before.before.before.before.before.requires.1, c.before.before.loop-test.true, c.before.before.before.before.before.before.before.before.requires.3, omega (arith, c.before.before.before.loop.invariant.2, c.before.before.before.before.before.before.before.before)))
+    (λ c κs. (c.requires.0, c.requires.1, c.loop-i-test.true, c.requires.3, omega (arith, c.loop-i.invariant.2, c.before.before.before.before.before.before.before.before)))
     (λ c. search rules)
     (λ c. search rules)
     loop_again
-    (λ c. begun_length c.before.loop.invariant.0)
-    (λ c. begun_counts c.before.loop.invariant.0)
+    (λ c. begun_length c.loop-i.invariant.0)
+    (λ c. begun_counts c.loop-i.invariant.0)
     returns)

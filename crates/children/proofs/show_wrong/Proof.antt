@@ -10,17 +10,15 @@ use native.Mathlib.Omega.{arith}
 use Rattle.children.proofs.show_wrong.Statement.{statement}
 use Rattle.children.proofs.show_wrong.Tie as tie
 
-returns : tie.Need-returns
+returns : tie.Need-returns-in-Is
 returns c =
-    let start = c.before.before.before.before.before.before.before.before.before.before.before.before.before.before.before.before.before.before.before.before in
-    let wrong = wrong_parent (key_at start.args.book.now start.args.p) _ (word_is _ (sym c.before.before.before.before.before.before.before.before.before.before.find-parent.ensures ∙ c.before.before.before.before.before.before.before.before.found.given.1)) c.before.before.before.before.before.before.before.before.before.before.before.before.key-inode.ensures c.before.before.before.before.before.before.before.before.before.before.before.key-offset.ensures in
-    (added_only (at_is start.requires.1 19 25) c.before.before.before.before.before.before.before.before.before.before.before.before.before.if1.true (added_as wrong c.before.before.before.before.emit-if.ensures.0), omega arith)
+    let wrong = wrong_parent (key_at c.args.book.now c.args.p) _ (word_is _ (sym c.find_parent-found.ensures ∙ c.in-Is.is)) c.key_inode-inode.ensures c.key_offset-child.ensures in
+    (added_only (at_is c.requires.1 19 25) c.if-f.true (added_as wrong c.emit_if.ensures.0), omega arith)
 
-returns_2 : tie.Need-returns-2
+returns_2 : tie.Need-returns-in-Absent
 returns_2 c =
-    let start = c.before.before.before.before.before.before.before.before.before.before.before.before.before.before.before.before.before.before.before in
-    let wrong = wrong_none (key_at start.args.book.now start.args.p) _ (word_absent _ (sym c.before.before.before.before.before.before.before.before.before.find-parent.ensures ∙ c.before.before.before.before.before.before.before.enum_told.given.1)) c.before.before.before.before.before.before.before.before.before.before.key-offset.ensures in
-    (added_only (at_is start.requires.1 19 25) c.before.before.before.before.before.before.before.before.before.before.before.before.if1.true (added_as wrong c.before.before.before.before.emit.ensures), omega (arith, c.before.before.before.before.emit.ensures.count))
+    let wrong = wrong_none (key_at c.args.book.now c.args.p) _ (word_absent _ (sym c.find_parent-found.ensures ∙ c.in-Absent.is)) c.key_offset-child.ensures in
+    (added_only (at_is c.requires.1 19 25) c.if-f.true (added_as wrong c.emit.ensures), omega (arith, c.emit.ensures.count))
 
 pub show_wrong_spec : {M : Type 1} → statement M
 show_wrong_spec =
@@ -41,4 +39,4 @@ show_wrong_spec =
     (λ c. search rules)
     (λ c. search rules)
     returns_2
-    (λ c. (added_not _ (at_is c.before.before.before.before.before.before.before.requires.1 19 25) c.if1.false, omega arith)))
+    (λ c. (added_not _ (at_is c.requires.1 19 25) c.if-f.false, omega arith)))

@@ -19,31 +19,29 @@ use Rattle.children.proofs.show_wrongs.Tie as tie
 unfoldable wrong : List ℕ → Bkey → List Finding
 wrong s k = only (is_entry k) (wrong_entry k (lookup k.offset (fs_parents (book_of s))))
 
-abbrev invariant_loop : tie.invariant-loop
+abbrev invariant_loop : tie.invariant-loop-left
 invariant_loop book h at work n out₀ counts₀ found₀ left₀ p₀ out counts found left p = KeysFit book left p × (found + left ≤ left₀) × Begun (each (λ _ k. wrong book k) 0 (keys_from book left₀ p₀)) (sink out₀ counts₀) (each (λ _ k. wrong book k) 0 (keys_from book left p)) found (sink out counts)
 
-abbrev decreases_loop : tie.decreases-loop
+abbrev decreases_loop : tie.decreases-loop-left
 decreases_loop book h at work n out₀ counts₀ found₀ left₀ p₀ out counts found left p = left
 
-loop_again : tie.Need-loop-preserved invariant_loop decreases_loop
+loop_again : tie.Need-loop-left-preserved invariant_loop decreases_loop
 unfolding wrong
 loop_again c =
-    let start = c.before.before.before.before.before.before.before.before.before.before.before.before.before.before.before in
-    let loop = c.before.before.before.before.before.before.before.before.before.before.loop in
+    let loop = c.loop-left in
     let fit = loop.invariant.0 in
-    let some = c.before.before.before.before.before.before.before.before.before.loop-test.true in
-    let ends = at_end (at_key (parts start.requires.0).small some fit c.before.before.before.before.before.before.before.before.key-front.ensures) in (
-      rw ends (step start.args.book.now loop.left loop.p some fit).rest,
-      omega (arith, loop.invariant.1, c.before.before.before.before.before.show-wrong.ensures.1, some),
-      turn loop.invariant.2 c.before.before.before.before.before.show-wrong.ensures.0 (key_next (wrong start.args.book.now) start.args.book.now loop.left loop.p some fit ends),
+    let some = c.loop-left-test.true in
+    let ends = at_end (at_key (parts c.requires.0).small some fit c.key_front-f.ensures) in (
+      rw ends (step c.args.book.now loop.left loop.p some fit).rest,
+      omega (arith, loop.invariant.1, c.show_wrong-found.ensures.1, some),
+      turn loop.invariant.2 c.show_wrong-found.ensures.0 (key_next (wrong c.args.book.now) c.args.book.now loop.left loop.p some fit ends),
     )
 
 returns : tie.Need-returns invariant_loop decreases_loop
 unfolding wrong
 returns c =
-    let start = c.before.before.before.before.before.before in
-    let done = each_none (λ _ k. wrong start.args.book.now k) 0 (no_keys start.args.book.now c.before.loop.p {n = c.before.loop.left} (omega arith)) in
-    (rw (sym (parts start.requires.0).keys) at (last c.before.loop.invariant.2 done), omega arith)
+    let done = each_none (λ _ k. wrong c.args.book.now k) 0 (no_keys c.args.book.now c.loop-left.p {n = c.loop-left.left} (omega arith)) in
+    (rw (sym (parts c.requires.0).keys) at (last c.loop-left.invariant.2 done), omega arith)
 
 pub show_wrongs_spec : {M : Type 1} → statement M
 show_wrongs_spec =
@@ -51,14 +49,14 @@ show_wrongs_spec =
     (tie.spec
     invariant_loop
     decreases_loop
-    (λ c. ((parts c.before.before.before.before.requires.0).keys_fit, omega arith, first))
-    (λ c κs. omega (arith, (parts c.before.before.before.before.before.before.requires.0).small, (step _ _ _ c.loop-test.true c.before.loop.invariant.0).head))
-    (λ c κs. (c.before.before.before.before.before.before.before.before.before.requires.0, at_key (parts c.before.before.before.before.before.before.before.before.before.requires.0).small c.before.before.before.loop-test.true c.before.before.before.before.loop.invariant.0 c.before.before.key-front.ensures, c.before.before.before.before.before.before.before.before.before.requires.1, c.before.before.before.before.before.before.before.before.before.requires.2, omega (arith, c.before.before.before.before.loop.invariant.1, c.before.before.before.before.before.before.before.before.before)))
-    (λ c. let k = at_key (parts c.before.before.before.before.before.before.before.before.before.before.before.before.before.before.requires.0).small c.before.before.before.before.before.before.before.before.loop-test.true c.before.before.before.before.before.before.before.before.before.loop.invariant.0 c.before.before.before.before.before.before.before.key-front.ensures in omega (arith, at_end k, k.inside, k.small))
-    (λ c. let k = at_key (parts c.before.before.before.before.before.before.before.before.before.before.before.before.before.before.before.requires.0).small c.before.before.before.before.before.before.before.before.before.loop-test.true c.before.before.before.before.before.before.before.before.before.before.loop.invariant.0 c.before.before.before.before.before.before.before.before.key-front.ensures in omega (arith, at_end k, k.inside, k.small))
+    (λ c. ((parts c.requires.0).keys_fit, omega arith, first))
+    (λ c κs. omega (arith, (parts c.requires.0).small, (step _ _ _ c.loop-left-test.true c.loop-left.invariant.0).head))
+    (λ c κs. (c.requires.0, at_key (parts c.requires.0).small c.loop-left-test.true c.loop-left.invariant.0 c.key_front-f.ensures, c.requires.1, c.requires.2, omega (arith, c.loop-left.invariant.1, c.before.before.before.before.before.before.before.before.before)))
+    (λ c. let k = at_key (parts c.requires.0).small c.loop-left-test.true c.loop-left.invariant.0 c.key_front-f.ensures in omega (arith, at_end k, k.inside, k.small))
+    (λ c. let k = at_key (parts c.requires.0).small c.loop-left-test.true c.loop-left.invariant.0 c.key_front-f.ensures in omega (arith, at_end k, k.inside, k.small))
     (λ c. search rules)
     (λ c. search rules)
     loop_again
-    (λ c. begun_length c.before.loop.invariant.2)
-    (λ c. begun_counts c.before.loop.invariant.2)
+    (λ c. begun_length c.loop-left.invariant.2)
+    (λ c. begun_counts c.loop-left.invariant.2)
     returns)

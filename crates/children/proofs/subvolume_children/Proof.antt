@@ -7,14 +7,13 @@ use native.Mathlib.Omega.{arith}
 use Rattle.children.proofs.subvolume_children.Statement.{statement}
 use Rattle.children.proofs.subvolume_children.Tie as tie
 
-show_children_requires : tie.Need-show-children-requires
-show_children_requires c κs =
-    let start = c.before.before.before.before.before.before.before.before.before.before.before.before.before.before.before in (
-      start.requires.0,
-      omega (arith, c.before.before.before.before.before.before.before.before.before.put-children.ensures.1, start.requires.1),
-      c.before.before.before.before.before.before.before.before.before.put-children.ensures.1,
-      record { small = (parts start.requires.0).small; fit = (parts start.requires.0).keys_fit; all = c.before.before.before.before.before.sort-pairs.ensures.0 ∙ ap sort c.before.before.before.before.before.before.before.before.before.put-children.ensures.0 },
-    )
+show_children_requires : tie.Need-show_children-requires
+show_children_requires c κs = (
+  c.requires.0,
+  omega (arith, c.put_children-n.ensures.1, c.requires.1),
+  c.put_children-n.ensures.1,
+  record { small = (parts c.requires.0).small; fit = (parts c.requires.0).keys_fit; all = c.sort_pairs.ensures.0 ∙ ap sort c.put_children-n.ensures.0 },
+)
 
 pub subvolume_children_spec : {M : Type 1} → statement M
 subvolume_children_spec =

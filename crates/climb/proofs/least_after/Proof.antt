@@ -7,28 +7,28 @@ use borrow.Author.Rules.{rules}
 use Rattle.climb.proofs.least_after.Statement.{statement}
 use Rattle.climb.proofs.least_after.Tie as tie
 
-enum_known_link : tie.Need-enum-known-link
+enum_known_link : tie.Need-enum_known-link
 enum_known_link c = search rules
 
-enum_told : tie.Need-enum-told
+enum_told : tie.Need-enum_told-1
 enum_told c = search rules
 
-returns : tie.Need-returns
+returns : tie.Need-returns-in_default
 unfolding least_after
-returns c = rw c.enum_told.given.1
+returns c = rw c.in_default.is
 
-cast_number : tie.Need-overflow-cast-number
+cast_number : tie.Need-overflow_cast-number
 cast_number c = search rules
 
-returns_2 : tie.Need-returns-2
+returns_2 : tie.Need-returns-then-number-least
 unfolding least_after
-returns_2 c = rw (c.before.before.link.given.1, lt-ltb _ _ c.if1.true)
+returns_2 c = rw (c.in-Is.is, lt-ltb _ _ c.if-number-least.true)
 
-add_t7 : tie.Need-overflow-add-t7
+add_t7 : tie.Need-overflow_add-result
 add_t7 c = search rules
 
-returns_3 : tie.Need-returns-3
-returns_3 c = least_one_more _ c.before.before.link.given.1 (omega arith) (omega arith)
+returns_3 : tie.Need-returns
+returns_3 c = least_one_more _ c.in-Is.is (omega arith) (omega arith)
 
 pub least_after_spec : {M : Type 1} → statement M
 least_after_spec =

@@ -8,61 +8,57 @@ use Rattle.climb.proofs.Order.{Ordered, ordered_start, ordered_more, ordered_not
 use Rattle.climb.proofs.rises.Statement.{statement}
 use Rattle.climb.proofs.rises.Tie as tie
 
-abbrev invariant_loop : tie.invariant-loop
+abbrev invariant_loop : tie.invariant-loop-left
 invariant_loop book start count from left₀ p₀ least₀ left p least = Ordered book count start from left p least
 
-abbrev decreases_loop : tie.decreases-loop
+abbrev decreases_loop : tie.decreases-loop-left
 decreases_loop book start count from left₀ p₀ least₀ left p least = left
 
 -- the key at hand, once its front is read
-key : (c : tie.After-key-front invariant_loop decreases_loop) → AtKey c.before.before.before.before.args.book.now c.before.before.loop.p c.key-front.result
-key c = at_key c.before.before.before.before.requires.0 c.before.loop-test.true c.before.before.loop.invariant.fit c.key-front.ensures
+key : (c : tie.After-key_front-f invariant_loop decreases_loop) → AtKey c.args.book.now c.loop-left.p c.key_front-f.result
+key c = at_key c.requires.0 c.loop-left-test.true c.loop-left.invariant.fit c.key_front-f.ensures
 
-loop_holds : tie.Need-loop-init invariant_loop decreases_loop
-loop_holds c = ordered_start c.before.requires.1
+loop_holds : tie.Need-loop-left-init invariant_loop decreases_loop
+loop_holds c = ordered_start c.requires.1
 
-key_front_requires : tie.Need-key-front-requires invariant_loop decreases_loop
-key_front_requires c κs = let t = c.before.before.before in (t.requires.0, omega (arith, (step _ _ _ c.loop-test.true c.before.loop.invariant.fit).head))
+key_front_requires : tie.Need-key_front-f-requires invariant_loop decreases_loop
+key_front_requires c κs = let t = c in (t.requires.0, omega (arith, (step _ _ _ c.loop-left-test.true c.loop-left.invariant.fit).head))
 
-link_at_requires : tie.Need-link-at-requires invariant_loop decreases_loop
+link_at_requires : tie.Need-link_at-link-requires invariant_loop decreases_loop
 link_at_requires c κs = key c
 
-least_after_requires : tie.Need-least-after-requires invariant_loop decreases_loop
+least_after_requires : tie.Need-least_after-after-requires invariant_loop decreases_loop
 least_after_requires c κs = search rules
 
-enum_known_after : tie.Need-enum-known-after invariant_loop decreases_loop
+enum_known_after : tie.Need-enum_known-after invariant_loop decreases_loop
 enum_known_after c = search rules
 
-enum_told : tie.Need-enum-told invariant_loop decreases_loop
+enum_told : tie.Need-enum_told-1 invariant_loop decreases_loop
 enum_told c = search rules
 
-returns : tie.Need-returns invariant_loop decreases_loop
+returns : tie.Need-returns-in_default invariant_loop decreases_loop
 returns c =
-    let l = c.before.before in
-    let t = l.before.before.before.before in
-    ordered_not t.loop.invariant l.before.before.before.loop-test.true l.before.link_at.ensures l.least-after.ensures c.enum_told.given.1
+    ordered_not c.loop-left.invariant c.loop-left-test.true c.link_at-link.ensures c.least_after-after.ensures c.in_default.is
 
-add_p : tie.Need-overflow-add-p invariant_loop decreases_loop
-add_p c = let k = key c.before.before.before.before.before in omega (arith, at_end k, k.inside, k.small)
+add_p : tie.Need-overflow_add-p invariant_loop decreases_loop
+add_p c = let k = key c.before.before.before in omega (arith, at_end k, k.inside, k.small)
 
-add_p_2 : tie.Need-overflow-add-p-2 invariant_loop decreases_loop
-add_p_2 c = let k = key c.before.before.before.before.before.before in omega (arith, at_end k, k.inside, k.small)
+add_p_2 : tie.Need-overflow_add-p-in-loop-left invariant_loop decreases_loop
+add_p_2 c = let k = key c.before.before.before.before in omega (arith, at_end k, k.inside, k.small)
 
-sub_left : tie.Need-overflow-sub-left invariant_loop decreases_loop
+sub_left : tie.Need-overflow_sub-left invariant_loop decreases_loop
 sub_left c = search rules
 
-loop_less : tie.Need-loop-smaller invariant_loop decreases_loop
+loop_less : tie.Need-loop-left-smaller invariant_loop decreases_loop
 loop_less c = search rules
 
-loop_again : tie.Need-loop-preserved invariant_loop decreases_loop
+loop_again : tie.Need-loop-left-preserved invariant_loop decreases_loop
 loop_again c =
-    let l = c.before.before.before.before in
-    let f = l.before.before in
-    ordered_more f.before.before.loop.invariant f.before.loop-test.true l.before.link_at.ensures l.least-after.ensures
-    (omega (arith, at_end (key f))) c.before.before.after.given.1
+    ordered_more c.loop-left.invariant c.loop-left-test.true c.link_at-link.ensures c.least_after-after.ensures
+    (omega (arith, at_end (key c.before.before.before.before))) c.in-Is.is
 
-returns_2 : tie.Need-returns-2 invariant_loop decreases_loop
-returns_2 c = ordered_end c.before.loop.invariant (omega arith)
+returns_2 : tie.Need-returns invariant_loop decreases_loop
+returns_2 c = ordered_end c.loop-left.invariant (omega arith)
 
 pub rises_spec : {M : Type 1} → statement M
 rises_spec =

@@ -6,19 +6,19 @@ use borrow.Author.Rules.{rules}
 use Rattle.climb.proofs.settle.Statement.{statement}
 use Rattle.climb.proofs.settle.Tie as tie
 
-enum_known_step : tie.Need-enum-known-step
+enum_known_step : tie.Need-enum_known-step
 enum_known_step c = search rules
 
-returns : tie.Need-returns
+returns : tie.Need-returns-in_default
 returns c = λ x e. let z : ◌≡◌ {A = ℕ} 0 1 = cc in absurd (omega arith)
 
 rises_requires : tie.Need-rises-requires
 rises_requires c κs = search rules
 
-returns_2 : tie.Need-returns-2
-returns_2 c = λ x e. (cc (c.before.before.before.step.given.1, e), sym c.before.rises.ensures ∙ c.if1.true)
+returns_2 : tie.Need-returns-then-rises
+returns_2 c = λ x e. (cc (c.in-End.is, e), sym c.rises.ensures ∙ c.if-rises.true)
 
-returns_3 : tie.Need-returns-3
+returns_3 : tie.Need-returns
 returns_3 c = λ x e. let z : ◌≡◌ {A = ℕ} 0 1 = cc in absurd (omega arith)
 
 pub settle_spec : {M : Type 1} → statement M

@@ -7,35 +7,35 @@ use borrow.Author.Rules.{rules}
 use Rattle.climb.proofs.step_by.Statement.{statement}
 use Rattle.climb.proofs.step_by.Tie as tie
 
-enum_known_link : tie.Need-enum-known-link
+enum_known_link : tie.Need-enum_known-link
 enum_known_link c = search rules
 
-enum_told : tie.Need-enum-told
+enum_told : tie.Need-enum_told-1
 enum_told c = search rules
 
-returns : tie.Need-returns
-returns c = Says.other c.enum_told.given.1 refl
+returns : tie.Need-returns-in_default
+returns c = Says.other c.in_default.is refl
 
-returns_2 : tie.Need-returns-2
-returns_2 c = Says.lower c.before.before.link.given.1 (omega arith) refl
+returns_2 : tie.Need-returns-then-id-at
+returns_2 c = Says.lower c.in-Is.is (omega arith) refl
 
-returns_3 : tie.Need-returns-3
-returns_3 c = Says.past c.before.before.before.link.given.1 (omega arith) refl
+returns_3 : tie.Need-returns-then-at-id
+returns_3 c = Says.past c.in-Is.is (omega arith) refl
 
-returns_4 : tie.Need-returns-4
-returns_4 c = says_top c.before.before.before.before.link.given.1 (omega arith) (omega arith) (omega arith) (omega arith)
+returns_4 : tie.Need-returns-then-parent-eq0
+returns_4 c = says_top c.in-Is.is (omega arith) (omega arith) (omega arith) (omega arith)
 
-returns_5 : tie.Need-returns-5
-returns_5 c = Says.full c.before.before.before.before.before.link.given.1 (omega arith) (omega arith) (omega arith) refl
+returns_5 : tie.Need-returns-then-links-eq1024
+returns_5 c = Says.full c.in-Is.is (omega arith) (omega arith) (omega arith) refl
 
-returns_6 : tie.Need-returns-6
-returns_6 c = Says.lost c.before.before.before.before.before.before.link.given.1 (omega arith) (omega arith) refl
+returns_6 : tie.Need-returns-then-parent-at
+returns_6 c = Says.lost c.in-Is.is (omega arith) (omega arith) refl
 
-add_t10 : tie.Need-overflow-add-t10
+add_t10 : tie.Need-overflow_add-result
 add_t10 c = search rules
 
-returns_7 : tie.Need-returns-7
-returns_7 c = says_up c.before.before.before.before.before.before.link.given.1 (omega arith) (omega arith) (omega arith) (omega arith) (omega arith)
+returns_7 : tie.Need-returns
+returns_7 c = says_up c.in-Is.is (omega arith) (omega arith) (omega arith) (omega arith) (omega arith)
 
 pub step_by_spec : {M : Type 1} → statement M
 step_by_spec =

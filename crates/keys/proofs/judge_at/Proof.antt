@@ -9,18 +9,18 @@ use native.Mathlib.Omega.{arith}
 use Rattle.keys.proofs.judge_at.Statement.{statement}
 use Rattle.keys.proofs.judge_at.Tie as tie
 
-returns : tie.Need-returns
+returns : tie.Need-returns-then-is_quiet
 returns c =
-    let a = c.before.before.before.before.before.args in
-    (added_nil (quiet_none a.book.now a.i _ (sym c.before.is-quiet.ensures ∙ c.if1.true)), omega arith)
+    let a = c.args in
+    (added_nil (quiet_none a.book.now a.i _ (sym c.is_quiet.ensures ∙ c.if-is_quiet.true)), omega arith)
 
-returns_2 : tie.Need-returns-2
+returns_2 : tie.Need-returns
 returns_2 c =
-    let a = c.before.before.before.before.before.before.before.before.before.before.before.before.before.before.before.before.args in
-    let head = c.before.before.before.before.before.before.before.before.before.before.key-head in
-    let from = c.before.before.before.before.before.before.before.before.start_of_lem in
-    let found = c.before.before.before.before.judge-key in
-    (added_as (key_judged c.before.before.before.before.before.before.before.before.before.before.before.before.before.before.before.before.requires.0 a.p a.i head.ensures) (lent a.out.now from.result a.n from.ensures found.ensures.0), omega (arith, found.ensures.1))
+    let a = c.args in
+    let head = c.key_head-k in
+    let from = c.start_of-from in
+    let found = c.judge_key in
+    (added_as (key_judged c.requires.0 a.p a.i head.ensures) (lent a.out.now from.result a.n from.ensures found.ensures.0), omega (arith, found.ensures.1))
 
 pub judge_at_spec : {M : Type 1} → statement M
 judge_at_spec =
@@ -28,12 +28,12 @@ judge_at_spec =
     (tie.spec
     (λ c κs. search rules)
     returns
-    (λ c κs. (c.before.before.before.before.before.requires.1.small, omega (arith, at_end c.before.before.before.before.before.requires.1, c.before.before.before.before.before.requires.1.inside)))
-    (λ c. omega (arith, key_ends _ _ c.before.key-head.ensures, c.before.before.before.before.before.before.before.requires.1.inside, c.before.before.before.before.before.before.before.requires.1.small))
+    (λ c κs. (c.requires.1.small, omega (arith, at_end c.requires.1, c.requires.1.inside)))
+    (λ c. omega (arith, key_ends _ _ c.key_head-k.ensures, c.requires.1.inside, c.requires.1.small))
     (λ c κs. search rules)
     (λ c. search rules)
     (λ c. search rules)
-    (λ c. omega (arith, key_ends _ _ c.before.before.key-head.ensures, c.before.before.before.before.before.before.before.before.requires.1.inside))
+    (λ c. omega (arith, key_ends _ _ c.key_head-k.ensures, c.requires.1.inside))
     (λ c. search rules)
     (λ c. search rules)
     (λ c. search rules)

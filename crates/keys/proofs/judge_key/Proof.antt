@@ -12,14 +12,14 @@ use Rattle.keys.proofs.judge_key.Tie as tie
 
 returns : tie.Need-returns
 returns c =
-    let a = c.before.before.before.before.before.before.before.before.before.before.before.before.before.before.before.before.before.before.before.before.before.before.before.before.before.before.before.before.before.before.before.before.before.before.args in
-    let device = c.before.before.before.before.before.before.before.before.before.before.before.before.before.before.before.before.before.before.before.before.before.before.before.before.before.before.before.before.check-key-device in
-    let from = c.before.before.before.before.before.before.before.before.before.before.before.before.before.before.before.before.before.before.before.before.before.before.before.start_of_lem in
-    let type = c.before.before.before.before.before.before.before.before.before.before.before.before.before.before.before.before.before.before.before.before.check-key-type in
-    let from₂ = c.before.before.before.before.before.before.before.before.before.before.before.before.before.before.before.start-of2 in
-    let fields = c.before.before.before.before.before.before.before.before.before.before.before.before.check-key-fields in
-    let from₃ = c.before.before.before.before.before.before.before.start-of3 in
-    let states = c.before.before.before.before.check-state-words in (
+    let a = c.args in
+    let device = c.check_key_device-a in
+    let from = c.start_of-from in
+    let type = c.check_key_type in
+    let from₂ = c.start_of-from-2 in
+    let fields = c.check_key_fields in
+    let from₃ = c.start_of-from-3 in
+    let states = c.check_state_words in (
       found_as (rules_turn a.device a.version a.i (bkey a.k a.value.now))
           (four_lent from.result from₂.result from₃.result device.result type.result fields.result states.result
           from.ensures from₂.ensures from₃.ensures

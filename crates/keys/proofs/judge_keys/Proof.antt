@@ -16,38 +16,38 @@ use native.Mathlib.Omega.{arith}
 use Rattle.keys.proofs.judge_keys.Statement.{statement}
 use Rattle.keys.proofs.judge_keys.Tie as tie
 
-abbrev invariant_loop : tie.invariant-loop
+abbrev invariant_loop : tie.invariant-loop-left
 invariant_loop book h at out₀ counts₀ present₀ n₀ i₀ left₀ p₀ out counts present n i left p =
     (n + left * 15 ≤ left₀ * 15) × (i + left ≤ left₀) × KeysFit book left p × Walk (key_findings (book_of book)) (book_of book).keys (sink out₀ counts₀) i (keys_from book left p) n (sink out counts)
     × (present_with present₀ (keys_from book left₀ p₀) ≡ present_with present (keys_from book left p))
 
-abbrev decreases_loop : tie.decreases-loop
+abbrev decreases_loop : tie.decreases-loop-left
 decreases_loop book h at out₀ counts₀ present₀ n₀ i₀ left₀ p₀ out counts present n i left p = left
 
-loop_holds : tie.Need-loop-init invariant_loop decreases_loop
+loop_holds : tie.Need-loop-left-init invariant_loop decreases_loop
 loop_holds c =
-    let o = parts c.before.before.before.requires in
+    let o = parts c.requires in
     (omega arith, omega arith, o.keys_fit, rw o.keys first, refl)
 
-loop_again : tie.Need-loop-preserved invariant_loop decreases_loop
+loop_again : tie.Need-loop-left-preserved invariant_loop decreases_loop
 loop_again c =
-    let l = c.before.before.before.before.before.before.before.before.before.before.before.loop in
-    let left = c.before.before.before.before.before.before.before.before.before.before.loop-test.true in
-    let front = c.before.before.before.before.before.before.before.before.before.key-front.ensures in
-    let found = c.before.before.before.before.before.judge-at.ensures in
-    let ends = at_end (at_key (parts c.before.before.before.before.before.before.before.before.before.before.before.before.before.before.before.requires).small left l.invariant.2 front) in (
+    let l = c.loop-left in
+    let left = c.loop-left-test.true in
+    let front = c.key_front-f.ensures in
+    let found = c.judge_at-n.ensures in
+    let ends = at_end (at_key (parts c.requires).small left l.invariant.2 front) in (
       omega (arith, l.invariant.0, found.1, left),
       omega (arith, l.invariant.1, left),
       rest_fits _ _ _ left front l.invariant.2,
       turn_keys _ _ _ _ _ left l.invariant.2 front l.invariant.3 found.0,
-      l.invariant.4 ∙ (rw c.before.before.before.before.before.before.before.before.with-btree.ensures (present_next l.present _ _ _ left l.invariant.2 ends front)),
+      l.invariant.4 ∙ (rw c.with_btree-present.ensures (present_next l.present _ _ _ left l.invariant.2 ends front)),
     )
 
 returns : tie.Need-returns invariant_loop decreases_loop
 unfolding present_in
 returns c = (
-  last c.before.loop.invariant.3 (each_none _ _ (keys_none _ _ _ (omega arith))),
-  (omega arith, rw (parts c.before.before.before.before.before.requires).keys (sym (c.before.loop.invariant.4 ∙ present_end _ _ _ _ (omega arith)))),
+  last c.loop-left.invariant.3 (each_none _ _ (keys_none _ _ _ (omega arith))),
+  (omega arith, rw (parts c.requires).keys (sym (c.loop-left.invariant.4 ∙ present_end _ _ _ _ (omega arith)))),
 )
 
 pub judge_keys_spec : {M : Type 1} → statement M
@@ -57,15 +57,15 @@ judge_keys_spec =
     invariant_loop
     decreases_loop
     loop_holds
-    (λ c κs. let o = parts c.before.before.before.before.before.requires in omega (arith, o.small, head_fits _ _ _ c.loop-test.true c.before.loop.invariant.2))
+    (λ c κs. let o = parts c.requires in omega (arith, o.small, head_fits _ _ _ c.loop-left-test.true c.loop-left.invariant.2))
     (λ c κs. search rules)
-    (λ c κs. (c.before.before.before.before.before.before.before.before.before.requires, at_key (parts c.before.before.before.before.before.before.before.before.before.requires).small c.before.before.before.before.loop-test.true c.before.before.before.before.before.loop.invariant.2 c.before.before.before.key-front.ensures, omega (arith, c.before.before.before.before.before.loop.invariant.0)))
-    (λ c. let k = at_key (parts c.before.before.before.before.before.before.before.before.before.before.before.before.before.before.requires).small c.before.before.before.before.before.before.before.before.before.loop-test.true c.before.before.before.before.before.before.before.before.before.before.loop.invariant.2 c.before.before.before.before.before.before.before.before.key-front.ensures in omega (arith, at_end k, k.inside, k.small))
-    (λ c. let k = at_key (parts c.before.before.before.before.before.before.before.before.before.before.before.before.before.before.before.requires).small c.before.before.before.before.before.before.before.before.before.before.loop-test.true c.before.before.before.before.before.before.before.before.before.before.before.loop.invariant.2 c.before.before.before.before.before.before.before.before.before.key-front.ensures in omega (arith, at_end k, k.inside, k.small))
-    (λ c. omega (arith, c.before.before.before.before.before.before.before.before.before.before.before.loop.invariant.1, few_keys c.before.before.before.before.before.before.before.before.before.before.before.before.before.before.before.requires))
+    (λ c κs. (c.requires, at_key (parts c.requires).small c.loop-left-test.true c.loop-left.invariant.2 c.key_front-f.ensures, omega (arith, c.loop-left.invariant.0)))
+    (λ c. let k = at_key (parts c.requires).small c.loop-left-test.true c.loop-left.invariant.2 c.key_front-f.ensures in omega (arith, at_end k, k.inside, k.small))
+    (λ c. let k = at_key (parts c.requires).small c.loop-left-test.true c.loop-left.invariant.2 c.key_front-f.ensures in omega (arith, at_end k, k.inside, k.small))
+    (λ c. omega (arith, c.loop-left.invariant.1, few_keys c.requires))
     (λ c. search rules)
     (λ c. search rules)
     loop_again
-    (λ c. begun_length c.before.loop.invariant.3)
-    (λ c. begun_counts c.before.loop.invariant.3)
+    (λ c. begun_length c.loop-left.invariant.3)
+    (λ c. begun_counts c.loop-left.invariant.3)
     returns)

@@ -9,7 +9,7 @@ pub bad_backref_spec : {M : Type 1} → statement M
 bad_backref_spec =
     tie.close
     (tie.spec
-    (λ c. rw (eq-eqb c.before.before.args.subvolume 0 c.if1.true))
+    (λ c. rw (eq-eqb c.args.subvolume 0 c.if-subvolume-eq0.true))
     (λ c κs. search rules)
     (λ c κs. search rules)
-    (λ c. other_is _ _ _ c.before.before.if1.false c.before.snapshot-of.ensures c.is-other.ensures))
+    (λ c. other_is _ _ _ c.if-subvolume-eq0.false c.snapshot_of.ensures c.is_other.ensures))

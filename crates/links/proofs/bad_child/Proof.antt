@@ -10,9 +10,9 @@ pub bad_child_spec : {M : Type 1} → statement M
 bad_child_spec =
     tie.close
     (tie.spec
-    (λ c. child_none _ _ _ c.if1.true)
+    (λ c. child_none _ _ _ c.if-child-eq0.true)
     (λ c κs. search rules)
     (λ c κs. search rules)
-    (λ c κs. (ready_source c.before.before.before.before.before.requires c.before.source_of.ensures, omega (arith, c.reach.ensures)))
+    (λ c κs. (ready_source c.requires c.source_of-source.ensures, omega (arith, c.reach-near.ensures)))
     (λ c κs. search rules)
-    (λ c. child_test _ _ _ c.before.before.before.before.if1.false c.before.parent_in_lem.ensures.0 c.is-the.ensures))
+    (λ c. child_test _ _ _ c.if-child-eq0.false c.parent_in-found.ensures.0 c.is_the.ensures))

@@ -5,5 +5,5 @@ use Rattle.links.proofs.count_skip.Tie as tie
 
 pub count_skip_spec : {M : Type 1} → statement M
 count_skip_spec = tie.close (tie.spec
-    (λ c. (rw c.if1.true, omega arith))
-    (λ c. (rw c.if1.false, omega arith)))
+    (λ c. (rw c.if-skip-id.true, omega arith))
+    (λ c. (rw c.if-skip-id.false, omega arith)))

@@ -5,13 +5,13 @@ use borrow.Author.Rules.{rules}
 use Rattle.links.proofs.is_other.Statement.{statement}
 use Rattle.links.proofs.is_other.Tie as tie
 
-returns : tie.Need-returns
+returns : tie.Need-returns-in-Is
 unfolding is_other word_in
-returns c = rw c.before.word.given.1
+returns c = rw c.in-Is.is
 
-returns_2 : tie.Need-returns-2
+returns_2 : tie.Need-returns-in-Absent
 unfolding is_other word_in
-returns_2 c = rw c.enum_told.given.1
+returns_2 c = rw c.in-Absent.is
 
 pub is_other_spec : {M : Type 1} → statement M
 is_other_spec = tie.close (tie.spec

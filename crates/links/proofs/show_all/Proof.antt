@@ -8,8 +8,8 @@ use Rattle.links.proofs.show_all.Tie as tie
 
 returns : tie.Need-returns
 returns c = (
-  more_lent c.before.before.before.before.before.before.before.start_of_lem.result c.before.before.before.before.before.before.before.before.before.before.before.before.show-trees.result c.before.before.before.before.show-snapshots.result c.before.before.before.before.before.before.before.start_of_lem.ensures c.before.before.before.before.before.before.before.before.before.before.before.before.show-trees.ensures.0 c.before.before.before.before.show-snapshots.ensures.0,
-  omega (arith, c.before.before.before.before.before.before.before.before.before.before.before.before.before.before.before.before.before.before.before.requires.few, c.before.before.before.before.before.before.before.before.before.before.before.before.show-trees.ensures.1, c.before.before.before.before.show-snapshots.ensures.1),
+  more_lent c.start_of-from.result c.show_trees-trees.result c.show_snapshots.result c.start_of-from.ensures c.show_trees-trees.ensures.0 c.show_snapshots.ensures.0,
+  omega (arith, c.requires.few, c.show_trees-trees.ensures.1, c.show_snapshots.ensures.1),
 )
 
 pub show_all_spec : {M : Type 1} → statement M
@@ -22,7 +22,7 @@ show_all_spec =
     (λ c. search rules)
     (λ c. search rules)
     (λ c κs. search rules)
-    (λ c. omega (arith, few_keys c.before.before.before.before.before.before.before.before.before.before.before.before.before.before.before.before.before.before.before.requires.opened, c.before.before.before.before.before.before.before.before.before.before.before.before.before.before.before.before.before.before.before.requires.few, c.before.before.before.before.before.before.before.before.before.before.before.before.show-trees.ensures.1, c.before.before.before.before.show-snapshots.ensures.1))
+    (λ c. omega (arith, few_keys c.requires.opened, c.requires.few, c.show_trees-trees.ensures.1, c.show_snapshots.ensures.1))
     (λ c. search rules)
     (λ c. search rules)
     returns)

@@ -8,7 +8,7 @@ use Rattle.links.proofs.show_backref.Tie as tie
 
 returns : tie.Need-returns
 returns c = (
-  added_as (backref_is _ _ _ c.before.before.before.before.before.before.before.before.key-word.ensures c.before.before.before.before.before.before.before.bad-backref.ensures) c.before.before.before.before.emit-if.ensures.0,
+  added_as (backref_is _ _ _ c.key_word-subvolume.ensures c.bad_backref-bad.ensures) c.emit_if.ensures.0,
   omega arith,
 )
 

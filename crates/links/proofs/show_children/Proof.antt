@@ -8,10 +8,9 @@ use Rattle.links.proofs.show_children.Tie as tie
 
 returns : tie.Need-returns
 returns c =
-    let second = c.before.before.before.before.emit-if2.ensures in
-    let first = c.before.before.before.before.before.before.before.before.before.before.before.emit-if.ensures in
-    let t = c.before.before.before.before.before.before.before.before.before.before.before.before.before.before in (
-      added_as (children_are _ _ _ t.before.before.before.key-word.ensures t.before.before.key-word2.ensures t.before.bad-child.ensures t.bad-child2.ensures)
+    let second = c.emit_if.ensures in
+    let first = c.emit_if-found.ensures in (
+      added_as (children_are _ _ _ c.key_word-left.ensures c.key_word-right.ensures c.bad_child-one.ensures c.bad_child-other.ensures)
           (added_more first.0 second.0),
       omega (arith, first.1, second.1),
     )

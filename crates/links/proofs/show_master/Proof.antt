@@ -6,16 +6,16 @@ use borrow.Author.Rules.{rules}
 use Rattle.links.proofs.show_master.Statement.{statement}
 use Rattle.links.proofs.show_master.Tie as tie
 
-returns : tie.Need-returns
+returns : tie.Need-returns-in-Is
 returns c = (
-  added_as (master_there _ _ _ _ c.before.before.before.before.before.before.before.before.before.before.before.before.snapshot-of.ensures c.before.before.before.before.before.before.before.before.before.before.snap.given.1 c.before.before.before.before.before.before.before.before.tree_of.ensures c.before.before.before.before.before.before.before.is-other.ensures) c.before.before.before.before.emit-if.ensures.0,
+  added_as (master_there _ _ _ _ c.snapshot_of.ensures c.in-Is.is c.tree_of.ensures c.is_other-other.ensures) c.emit_if.ensures.0,
   omega arith,
 )
 
-returns_2 : tie.Need-returns-2
+returns_2 : tie.Need-returns-in-Absent
 returns_2 c = (
-  added_as (master_absent _ _ _ _ c.before.before.before.before.before.before.before.before.before.snapshot-of.ensures c.before.before.before.before.before.before.before.enum_told.given.1) c.before.before.before.before.emit.ensures,
-  omega (arith, c.before.before.before.before.emit.ensures.count),
+  added_as (master_absent _ _ _ _ c.snapshot_of.ensures c.in-Absent.is) c.emit.ensures,
+  omega (arith, c.emit.ensures.count),
 )
 
 pub show_master_spec : {M : Type 1} → statement M

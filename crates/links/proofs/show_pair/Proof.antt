@@ -15,16 +15,16 @@ use Rattle.links.proofs.show_pair.Statement.{statement}
 use Rattle.links.proofs.show_pair.Tie as tie
 
 -- the record, once the word is read
-record_of : (c : tie.After-shared-slice-known3) → Held (holds 15 31 8) id_of c.before.before.before.before.before.before.before.args.book.now (get_or c.before.before.before.before.before.before.before.args.work.now (2 * c.before.before.before.before.before.before.before.args.i) 0) (get_or c.before.before.before.before.before.before.before.args.work.now (2 * c.before.before.before.before.before.before.before.args.i + 1) 0 % 2 ^ 32)
+record_of : (c : tie.After-shared_slice_known-then-is_last-1) → Held (holds 15 31 8) id_of c.args.book.now (get_or c.args.work.now (2 * c.args.i) 0) (get_or c.args.work.now (2 * c.args.i + 1) 0 % 2 ^ 32)
 record_of c =
-    last_tree c.before.before.before.before.before.before.before.requires.0 c.before.before.before.before.before.before.before.args.i c.before.before.before.before.before.before.before.requires.1 (λ k. (c.shared-slice-known3.given k).fits) (sym c.before.before.is_last.ensures ∙ c.before.if1.true)
+    last_tree c.requires.0 c.args.i c.requires.1 (λ k. (c.shared_slice_known-then-is_last-1.given k).fits) (sym c.is_last.ensures ∙ c.if-is_last.true)
 
-returns : tie.Need-returns
+returns : tie.Need-returns-then-is_last
 returns c =
     let t = c.before.before.before.before.before.before.before.before in
-    let a = t.before.before.before.before.before.before.before.args in
+    let a = t.args in
     let same = ap (λ (id : ℕ). tree_findings (book_of a.book.now) (tree_at a.book.now (id, get_or a.work.now (2 * a.i + 1) 0 % 2 ^ 32))) (record_of t).numbered in
-    (added_only t.before.before.is_last.ensures t.before.if1.true (added_as same c.before.before.before.before.show-tree.ensures.0), omega arith)
+    (added_only t.is_last.ensures t.if-is_last.true (added_as same c.show_tree.ensures.0), omega arith)
 
 pub show_pair_spec : {M : Type 1} → statement M
 show_pair_spec =
@@ -35,12 +35,12 @@ show_pair_spec =
     (λ c. search rules)
     (λ c. search rules)
     (λ c. search rules)
-    (λ c κs. held_head 15 31 8 (ready_small c.before.before.before.before.before.before.before.requires.0) (record_of c))
+    (λ c κs. held_head 15 31 8 (ready_small c.requires.0) (record_of c))
     (λ c κs.
     let t = c.before.before.before in
-    let k = held_key 15 31 8 (ready_small t.before.before.before.before.before.before.before.requires.0) (record_of t) c.before.before.key-front.ensures in
-    (t.before.before.before.before.before.before.before.requires.0, k.0, k.1, t.before.before.before.before.before.before.before.requires.2))
+    let k = held_key 15 31 8 (ready_small t.requires.0) (record_of t) c.key_front-f.ensures in
+    (t.requires.0, k.0, k.1, t.requires.2))
     (λ c. search rules)
     (λ c. search rules)
     returns
-    (λ c. (added_not _ c.before.is_last.ensures c.if1.false, omega arith)))
+    (λ c. (added_not _ c.is_last.ensures c.if-is_last.false, omega arith)))

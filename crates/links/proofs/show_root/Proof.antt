@@ -8,8 +8,8 @@ use Rattle.links.proofs.show_root.Tie as tie
 
 returns : tie.Need-returns
 returns c = (
-  added_as (root_shown _ _ _ _ c.before.before.before.before.before.before.before.before.before.before.before.before.before.before.before.before.before.before.key-word.ensures c.before.before.before.before.before.before.before.before.before.before.before.before.before.before.before.before.before.key-word2.ensures c.before.before.before.before.before.before.before.before.before.before.before.before.before.before.before.before.tree-root.ensures c.before.before.before.before.before.before.before.before.before.before.before.before.before.before.before.same-root.ensures c.before.before.before.before.before.before.before.before.before.before.before.before.before.before.wrong-depth.ensures)
-      (added_more c.before.before.before.before.before.before.before.before.before.before.before.emit-if.ensures.0 c.before.before.before.before.emit-if2.ensures.0),
+  added_as (root_shown _ _ _ _ c.key_word-tree.ensures c.key_word-depth.ensures c.tree_root.ensures c.same_root-same.ensures c.wrong_depth-wrong.ensures)
+      (added_more c.emit_if-found.ensures.0 c.emit_if.ensures.0),
   omega arith,
 )
 

@@ -14,4 +14,4 @@ show_skips_spec =
     (λ c κs. search rules)
     (λ c. search rules)
     (λ c. search rules)
-    (λ c. (added_as (skips_shown _ _ _ c.before.before.before.before.before.before.before.count-skips.ensures) c.before.before.before.before.emit-if.ensures.0, omega arith)))
+    (λ c. (added_as (skips_shown _ _ _ c.count_skips-bad.ensures) c.emit_if.ensures.0, omega arith)))

@@ -8,9 +8,9 @@ use Rattle.links.proofs.show_tree.Tie as tie
 
 returns : tie.Need-returns
 returns c = (
-  added_as (tree_shown _ _ c.before.before.before.before.before.before.before.before.before.before.before.before.before.before.before.before.before.before.key-id.ensures c.before.before.before.before.before.before.before.before.before.before.before.before.before.before.before.before.before.key-word.ensures c.before.before.before.before.before.before.before.before.before.before.before.before.before.before.before.before.key-word2.ensures c.before.before.before.before.before.before.before.before.before.before.before.before.before.before.before.tree_of.ensures c.before.before.before.before.before.before.before.before.before.before.before.before.before.before.is-the.ensures)
-      (added_more c.before.before.before.before.before.before.before.before.before.before.before.emit-if.ensures.0 c.before.before.before.before.show-master.ensures.0),
-  omega (arith, c.before.before.before.before.before.before.before.before.before.before.before.emit-if.ensures.1, c.before.before.before.before.show-master.ensures.1),
+  added_as (tree_shown _ _ c.key_id-id.ensures c.key_word-subvolume.ensures c.key_word-root.ensures c.tree_of.ensures c.is_the-back.ensures)
+      (added_more c.emit_if-found.ensures.0 c.show_master.ensures.0),
+  omega (arith, c.emit_if-found.ensures.1, c.show_master.ensures.1),
 )
 
 pub show_tree_spec : {M : Type 1} → statement M

@@ -11,25 +11,23 @@ use borrow.Author.Rules.{rules}
 use Rattle.links.proofs.snapshot_links.Statement.{statement}
 use Rattle.links.proofs.snapshot_links.Tie as tie
 
-show_all_requires : tie.Need-show-all-requires
+show_all_requires : tie.Need-show_all-requires
 show_all_requires c κs =
-    let o = c.before.before.before.before.before.before.before.before.before.before.before.before.before.before.before.before.before.requires.0 in
+    let o = c.requires.0 in
     record {
       opened = o;
-      few = c.before.before.before.before.before.before.before.before.before.put-links.ensures.1;
+      few = c.put_links-n.ensures.1;
       room = omega arith;
-      pairs = record { small = (parts o).small; fit = (parts o).keys_fit; all = c.before.before.before.before.before.sort-pairs.ensures.0 ∙ ap sort c.before.before.before.before.before.before.before.before.before.put-links.ensures.0 };
+      pairs = record { small = (parts o).small; fit = (parts o).keys_fit; all = c.sort_pairs.ensures.0 ∙ ap sort c.put_links-n.ensures.0 };
     }
 
-returns : tie.Need-returns
+returns : tie.Need-returns-then-not-h
 returns c =
-    let t = c.before.before.before.before.before.before in
-    (found_as (sym (links_unmarked (book_of t.args.book.now) (parts t.requires.0).header (not-true t.args.h.trees c.if1.true))) (none _), omega arith)
+    (found_as (sym (links_unmarked (book_of c.args.book.now) (parts c.requires.0).header (not-true c.args.h.trees c.if-not-h.true))) (none _), omega arith)
 
-returns_2 : tie.Need-returns-2
+returns_2 : tie.Need-returns
 returns_2 c =
-    let t = c.before.before.before.before.before.before.before.before.before.before.before.before.before.before.before.before.before.before.before.before.before.before in
-    (found_as (links_marked (book_of t.args.book.now) (parts t.requires.0).header (not-false t.args.h.trees c.before.before.before.before.before.before.before.before.before.before.before.before.before.before.before.before.if1.false)) c.before.before.before.before.show-all.ensures.0, omega arith)
+    (found_as (links_marked (book_of c.args.book.now) (parts c.requires.0).header (not-false c.args.h.trees c.if-not-h.false)) c.show_all.ensures.0, omega arith)
 
 pub snapshot_links_spec : {M : Type 1} → statement M
 snapshot_links_spec =

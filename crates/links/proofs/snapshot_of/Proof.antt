@@ -10,5 +10,5 @@ snapshot_of_spec =
     tie.close
     (tie.spec
     (λ c. search rules)
-    (λ c κs. ((parts c.before.before.requires).subvolumes_rise, omega arith))
-    (λ c. rw (parts c.before.before.before.requires).subvolumes c.find-word.ensures.0))
+    (λ c κs. ((parts c.requires).subvolumes_rise, omega arith))
+    (λ c. rw (parts c.requires).subvolumes c.find_word-found.ensures.0))

@@ -7,20 +7,20 @@ use borrow.Author.Rules.{rules}
 use Rattle.links.proofs.tree_root.Statement.{statement}
 use Rattle.links.proofs.tree_root.Tie as tie
 
-returns : tie.Need-returns
-returns c = root_found c.before.before.before.before.before.before.before.before.requires c.before.before.before.before.before.before.before.before.args.id (sym c.before.before.before.before.before.find-place.ensures ∙ c.before.before.before.q.given.1) c.key-word.ensures
+returns : tie.Need-returns-in-Is
+returns c = root_found c.requires c.args.id (sym c.find_place.ensures ∙ c.in-Is.is) c.key_word.ensures
 
-returns_2 : tie.Need-returns-2
-returns_2 c = root_absent c.before.before.before.before.before.requires c.before.before.before.before.before.args.id (sym c.before.before.find-place.ensures ∙ c.enum_told.given.1)
+returns_2 : tie.Need-returns-in-Absent
+returns_2 c = root_absent c.requires c.args.id (sym c.find_place.ensures ∙ c.in-Absent.is)
 
 pub tree_root_spec : {M : Type 1} → statement M
 tree_root_spec =
     tie.close
     (tie.spec
-    (λ c κs. (c.before.before.requires.room, sorted_by _ _ c.before.before.requires.pairs.all, omega arith))
+    (λ c κs. (c.requires.room, sorted_by _ _ c.requires.pairs.all, omega arith))
     (λ c. search rules)
-    (λ c κs. held_head 15 31 8 (ready_small c.before.before.before.before.before.before.requires) (tree_held c.before.before.before.before.before.before.requires c.before.before.before.before.before.before.args.id (sym c.before.before.before.find-place.ensures ∙ c.before.q.given.1)))
-    (λ c κs. held_key 15 31 8 (ready_small c.before.before.before.before.before.before.before.requires) (tree_held c.before.before.before.before.before.before.before.requires c.before.before.before.before.before.before.before.args.id (sym c.before.before.before.before.find-place.ensures ∙ c.before.before.q.given.1)) c.key-front.ensures)
+    (λ c κs. held_head 15 31 8 (ready_small c.requires) (tree_held c.requires c.args.id (sym c.find_place.ensures ∙ c.in-Is.is)))
+    (λ c κs. held_key 15 31 8 (ready_small c.requires) (tree_held c.requires c.args.id (sym c.find_place.ensures ∙ c.in-Is.is)) c.key_front-f.ensures)
     (λ c. search rules)
     returns
     returns_2)

@@ -22,63 +22,59 @@ use borrow.Author.Rules.{rules}
 use Rattle.links.proofs.walk_snapshots.Statement.{statement}
 use Rattle.links.proofs.walk_snapshots.Tie as tie
 
-abbrev invariant_loop : tie.invariant-loop
+abbrev invariant_loop : tie.invariant-loop-left
 invariant_loop book h at work n hints₀ out₀ counts₀ ids₀ line₀ found₀ left₀ p₀ hints out counts ids line found left p =
     KeysFit book left p × (found + left * 6 ≤ left₀ * 6)
     × Begun (each (λ _ k. only (holds 9 22 40 k) (link_findings (book_of book) k)) 0 (keys_from book left₀ p₀)) (sink out₀ counts₀)
     (each (λ _ k. only (holds 9 22 40 k) (link_findings (book_of book) k)) 0 (keys_from book left p)) found (sink out counts)
     × Lined (parents_of (book_of book)) ids line × (line.near ≤ reach_of (source_of h at n)) × (length hints ≡ length hints₀)
 
-abbrev decreases_loop : tie.decreases-loop
+abbrev decreases_loop : tie.decreases-loop-left
 decreases_loop book h at work n hints₀ out₀ counts₀ ids₀ line₀ found₀ left₀ p₀ hints out counts ids line found left p = left
 
 -- the key at hand, once its front is read
-key : (c : tie.After-key-front invariant_loop decreases_loop) → AtKey c.before.before.before.before.before.before.before.before.before.before.before.before.before.before.args.book.now c.before.before.loop.p c.key-front.result
-key c = at_key (parts c.before.before.before.before.before.before.before.before.before.before.before.before.before.before.requires.opened).small c.before.loop-test.true c.before.before.loop.invariant.0 c.key-front.ensures
+key : (c : tie.After-key_front-f invariant_loop decreases_loop) → AtKey c.args.book.now c.loop-left.p c.key_front-f.result
+key c = at_key (parts c.requires.opened).small c.loop-left-test.true c.loop-left.invariant.0 c.key_front-f.ensures
 
-loop_holds : tie.Need-loop-init invariant_loop decreases_loop
+loop_holds : tie.Need-loop-left-init invariant_loop decreases_loop
 loop_holds c =
-    let k = c.before.before in
-    let line = k.Line-of.ensures in (
-      (parts c.before.before.before.before.before.before.before.before.before.before.before.requires.opened).keys_fit,
+    let line = c.line_of-line.ensures in (
+      (parts c.requires.opened).keys_fit,
       omega arith,
       first,
       line.0,
-      omega (arith, line.1.1, ap reach_of k.before.before.before.source_of.ensures),
+      omega (arith, line.1.1, ap reach_of c.source_of-source.ensures),
       search rules,
     )
 
-show_snapshot_requires : tie.Need-show-snapshot-requires invariant_loop decreases_loop
+show_snapshot_requires : tie.Need-show_snapshot-shown-requires invariant_loop decreases_loop
 show_snapshot_requires c κs =
     let k = c.before.before.before.before in
-    let t = k.before.before.before.before.before.before.before.before.before.before.before.before.before.before in
-    let l = k.before.before.loop in
-    ((t.requires, key k, omega (arith, l.invariant.1, t)), (l.invariant.3, l.invariant.4))
+    let l = k.loop-left in
+    ((c.requires, key k, omega (arith, l.invariant.1, c.requires)), (l.invariant.3, l.invariant.4))
 
-loop_again : tie.Need-loop-preserved invariant_loop decreases_loop
+loop_again : tie.Need-loop-left-preserved invariant_loop decreases_loop
 loop_again c =
     let k = c.before.before.before.before.before.before.before.before.before.before.before.before.before in
-    let t = k.before.before.before.before.before.before.before.before.before.before.before.before.before.before in
-    let s = t.args.book.now in
-    let l = k.before.before.loop in
-    let some = k.before.loop-test.true in
+    let s = c.args.book.now in
+    let l = k.loop-left in
+    let some = k.loop-left-test.true in
     let ends = at_end (key k) in
-    let shown = c.before.before.before.before.before.before.before.before.show-snapshot.ensures in (
+    let shown = c.show_snapshot-shown.ensures in (
       rw ends (step s l.left l.p some l.invariant.0).rest,
-      omega (arith, l.invariant.1, shown.1.0, t, some),
+      omega (arith, l.invariant.1, shown.1.0, c.requires, some),
       turn l.invariant.2 shown.0 (key_next (λ k. only (holds 9 22 40 k) (link_findings (book_of s) k)) s l.left l.p some l.invariant.0 ends),
       shown.1.1.0,
       shown.1.1.1,
-      c.before.before.before.before.before.before.before.hints2.given ∙ l.invariant.5,
+      c.hints-in-loop-left-1.given ∙ l.invariant.5,
     )
 
 returns : tie.Need-returns invariant_loop decreases_loop
 returns c =
-    let t = c.before.before.before.before.before.before.before.before.before.before.before.before.before in
-    let s = t.args.book.now in
-    let l = c.before.loop in
+    let s = c.args.book.now in
+    let l = c.loop-left in
     let done = each_none (λ _ k. only (holds 9 22 40 k) (link_findings (book_of s) k)) 0 (no_keys s l.p {n = l.left} (omega arith)) in
-    (found_as (ap (each (λ _ k. only (holds 9 22 40 k) (link_findings (book_of s) k)) 0) (sym (parts t.requires.opened).keys)) (last l.invariant.2 done), omega arith)
+    (found_as (ap (each (λ _ k. only (holds 9 22 40 k) (link_findings (book_of s) k)) 0) (sym (parts c.requires.opened).keys)) (last l.invariant.2 done), omega arith)
 
 pub walk_snapshots_spec : {M : Type 1} → statement M
 walk_snapshots_spec =
@@ -87,16 +83,16 @@ walk_snapshots_spec =
     invariant_loop
     decreases_loop
     (λ c κs. search rules)
-    (λ c κs. (ready_source c.before.before.before.before.before.before.before.before.requires c.before.before.source_of.ensures, omega arith))
+    (λ c κs. (ready_source c.requires c.source_of-source.ensures, omega arith))
     loop_holds
-    (λ c κs. omega (arith, (parts c.before.before.before.before.before.before.before.before.before.before.before.before.before.requires.opened).small, (step _ _ _ c.loop-test.true c.before.loop.invariant.0).head))
+    (λ c κs. omega (arith, (parts c.requires.opened).small, (step _ _ _ c.loop-left-test.true c.loop-left.invariant.0).head))
     show_snapshot_requires
     (λ c. let k = key c.before.before.before.before.before.before.before.before.before.before.before.before in omega (arith, at_end k, k.inside, k.small))
     (λ c. let k = key c.before.before.before.before.before.before.before.before.before.before.before.before.before in omega (arith, at_end k, k.inside, k.small))
     (λ c. search rules)
     (λ c. search rules)
     loop_again
-    (λ c. c.before.loop.invariant.5 ∙ c.before.before.before.hints.given)
-    (λ c. begun_length c.before.loop.invariant.2)
-    (λ c. begun_counts c.before.loop.invariant.2)
+    (λ c. c.loop-left.invariant.5 ∙ c.hints-1.given)
+    (λ c. begun_length c.loop-left.invariant.2)
+    (λ c. begun_counts c.loop-left.invariant.2)
     returns)

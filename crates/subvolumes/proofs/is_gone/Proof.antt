@@ -9,8 +9,8 @@ pub is_gone_spec : {M : Type 1} → statement M
 is_gone_spec =
     tie.close
     (tie.spec
-    (λ c κs. (c.before.before.before.before.before.requires, at_least c.before.before.before.before.before.requires 8 21 44 c.if1.true))
+    (λ c κs. (c.requires, at_least c.requires 8 21 44 c.if-f.true))
     (λ c κs. search rules)
-    (λ c. gone_yes c.before.before.before.before.before.before.before.before.requires c.before.before.before.if1.true c.before.before.key-word.ensures c.key-offset.ensures c.before.if2.true)
-    (λ c. gone_other c.before.before.before.before.before.before.before.requires c.before.before.if1.true c.before.key-word.ensures c.if2.false)
-    (λ c. gone_no c.before.before.before.before.before.requires c.if1.false))
+    (λ c. gone_yes c.requires c.if-f.true c.key_word-state.ensures c.key_offset.ensures c.if-state.true)
+    (λ c. gone_other c.requires c.if-f.true c.key_word-state.ensures c.if-state.false)
+    (λ c. gone_no c.requires c.if-f.false))

@@ -12,5 +12,5 @@ is_gone_id_spec =
     (tie.spec
     (λ c κs. search rules)
     (λ c κs. search rules)
-    (λ c. gone_id _ (sym c.before.before.is-gone.ensures ∙ c.before.if1.true) c.key-offset.ensures)
-    (λ c. gone_id_no (key_at c.before.before.before.args.book.now c.before.before.before.args.p).offset c.before.before.before.args.id (sym c.before.is-gone.ensures ∙ c.if1.false)))
+    (λ c. gone_id _ (sym c.is_gone.ensures ∙ c.if-is_gone.true) c.key_offset.ensures)
+    (λ c. gone_id_no (key_at c.args.book.now c.args.p).offset c.args.id (sym c.is_gone.ensures ∙ c.if-is_gone.false)))

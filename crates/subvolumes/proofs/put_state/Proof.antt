@@ -10,22 +10,22 @@ use native.Mathlib.Omega.{arith}
 use Rattle.subvolumes.proofs.put_state.Statement.{statement}
 use Rattle.subvolumes.proofs.put_state.Tie as tie
 
-returns : tie.Need-returns
+returns : tie.Need-returns-then-is_live_snapshot
 returns c =
-    let a = c.before.before.before.before.before.before.before.before.before.args in
-    let yes = state_snapshot c.before.before.before.before.before.before.before.before.before.requires.0 (sym c.before.before.before.before.before.before.is-live-snapshot.ensures ∙ c.before.before.before.before.before.if1.true) c.before.before.before.before.key-word.ensures in
-    (c.before.before.put-pair.ensures.0 ∙ ap (λ (l : List ℕ). pairs_of a.work.now a.n ++ l) yes, omega arith)
+    let a = c.args in
+    let yes = state_snapshot c.requires.0 (sym c.is_live_snapshot.ensures ∙ c.if-is_live_snapshot.true) c.key_word-id.ensures in
+    (c.put_pair.ensures.0 ∙ ap (λ (l : List ℕ). pairs_of a.work.now a.n ++ l) yes, omega arith)
 
-returns_2 : tie.Need-returns-2
+returns_2 : tie.Need-returns-then-f
 returns_2 c =
-    let a = c.before.before.before.before.before.before.before.before.before.before.before.before.before.args in
-    let yes = state_tree c.before.before.before.before.before.before.before.before.before.before.before.before.before.requires.0 (sym c.before.before.before.before.before.before.before.before.before.before.is-live-snapshot.ensures ∙ c.before.before.before.before.before.before.before.before.before.if1.false) c.before.before.before.before.before.if2.true c.before.before.before.before.key-word2.ensures in
-    (c.before.before.put-pair2.ensures.0 ∙ ap (λ (l : List ℕ). pairs_of a.work.now a.n ++ l) yes, omega arith)
+    let a = c.args in
+    let yes = state_tree c.requires.0 (sym c.is_live_snapshot.ensures ∙ c.if-is_live_snapshot.false) c.if-f.true c.key_word-id-then-f.ensures in
+    (c.put_pair-then-f.ensures.0 ∙ ap (λ (l : List ℕ). pairs_of a.work.now a.n ++ l) yes, omega arith)
 
-returns_3 : tie.Need-returns-3
+returns_3 : tie.Need-returns
 returns_3 c =
-    let a = c.before.before.before.before.before.before.before.before.args in
-    let no = state_none c.before.before.before.before.before.before.before.before.requires.0 (sym c.before.before.before.before.before.is-live-snapshot.ensures ∙ c.before.before.before.before.if1.false) c.if2.false in
+    let a = c.args in
+    let no = state_none c.requires.0 (sym c.is_live_snapshot.ensures ∙ c.if-is_live_snapshot.false) c.if-f.false in
     (rw (no, append-nil (pairs_of a.work.now a.n)), omega arith)
 
 pub put_state_spec : {M : Type 1} → statement M
@@ -33,14 +33,14 @@ put_state_spec =
     tie.close
     (tie.spec
     (λ c κs. search rules)
-    (λ c κs. (c.before.before.before.before.requires.0, omega (arith, live_long c.before.before.before.before.requires.0 (sym c.before.is-live-snapshot.ensures ∙ c.if1.true))))
+    (λ c κs. (c.requires.0, omega (arith, live_long c.requires.0 (sym c.is_live_snapshot.ensures ∙ c.if-is_live_snapshot.true))))
     (λ c. search rules)
     (λ c. search rules)
     (λ c κs. search rules)
     (λ c. search rules)
     (λ c. search rules)
     returns
-    (λ c κs. (c.before.before.before.before.before.before.before.before.requires.0, omega (arith, at_least c.before.before.before.before.before.before.before.before.requires.0 15 31 8 c.if2.true)))
+    (λ c κs. (c.requires.0, omega (arith, at_least c.requires.0 15 31 8 c.if-f.true)))
     (λ c. search rules)
     (λ c. search rules)
     (λ c. search rules)

@@ -11,12 +11,11 @@ use Rattle.subvolumes.proofs.sort_states.Tie as tie
 
 returns : tie.Need-returns
 returns c =
-    let t = c.before.before.before.before.before.before.before.before.before.before in
-    let book = t.args.book.now in
-    let open-parts = parts t.requires.0 in
-    let sorted = c.before.before.sort-pairs.ensures.0 ∙ ap sort c.before.before.before.before.before.before.put-states.ensures.0 in (
+    let book = c.args.book.now in
+    let open-parts = parts c.requires.0 in
+    let sorted = c.sort_pairs.ensures.0 ∙ ap sort c.put_states-n.ensures.0 in (
       judged_all (book_of book) book _ _ open-parts.small open-parts.keys_fit open-parts.keys sorted,
-      (all_grouped book _ _ _ _ open-parts.small open-parts.keys_fit (λ k. (c.slice-known3.given k).fits) (omega arith) sorted, c.before.before.before.before.before.before.put-states.ensures.1),
+      (all_grouped book _ _ _ _ open-parts.small open-parts.keys_fit (λ k. (c.slice_known-3-1.given k).fits) (omega arith) sorted, c.put_states-n.ensures.1),
     )
 
 pub sort_states_spec : {M : Type 1} → statement M

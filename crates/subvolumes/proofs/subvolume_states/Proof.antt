@@ -8,11 +8,11 @@ use native.Mathlib.Omega.{arith}
 use Rattle.subvolumes.proofs.subvolume_states.Statement.{statement}
 use Rattle.subvolumes.proofs.subvolume_states.Tie as tie
 
-returns : tie.Need-returns
-returns c = (rw (← c.before.before.before.before.before.before.before.before.before.before.sort-states.ensures.0) c.before.before.before.before.show-subvolumes.ensures.0, omega arith)
+returns : tie.Need-returns-then-has_gone
+returns c = (rw (← c.sort_states-n.ensures.0) c.show_subvolumes.ensures.0, omega arith)
 
-returns_2 : tie.Need-returns-2
-returns_2 c = (found_as (sym (states_none (book_of c.before.before.before.before.before.before.args.book.now) (sym c.before.has-gone.ensures ∙ c.if1.false))) (none _), omega arith)
+returns_2 : tie.Need-returns
+returns_2 c = (found_as (sym (states_none (book_of c.args.book.now) (sym c.has_gone.ensures ∙ c.if-has_gone.false))) (none _), omega arith)
 
 pub subvolume_states_spec : {M : Type 1} → statement M
 subvolume_states_spec =
