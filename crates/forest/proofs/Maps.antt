@@ -134,4 +134,4 @@ module _ {A : Type 0} where
       let r : v ≡ e.1 = ap (λ (x : ℕ × A). x.1) p in
       rw (eq-eqb i e.0 q)
       (last_of_absent i (some e.1) es (λ m. h.0 (subst (λ (j : ℕ). j ∈ ids es) q m)) ∙ ap some (sym r))
-  last_of_distinct i v d (e ∷ es) h (Memᴰ.tail m) = last_of_distinct i v _ es h.1 m
+  last_of_distinct i v d (e ∷ es) h (Memᴰ.tail m) = last_of_distinct i v (cond (eqb i e.0) (some e.1) d) es h.1 m

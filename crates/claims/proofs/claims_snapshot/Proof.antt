@@ -8,8 +8,8 @@ pub claims_snapshot_spec : {M : Type 1} → statement M
 claims_snapshot_spec =
     tie.close
     (tie.spec
-    (λ c. claims_short c.before.before.before.before.before.before.before.requires c.before.before.if1.true c.if2.true)
+    (λ c. claims_short c.requires c.if-f.true c.if-f-lt44.true)
     (λ c κs. search rules)
     (λ c κs. search rules)
-    (λ c. claims_long c.before.before.before.before.before.before.before.before.before.requires c.before.before.before.before.if1.true c.before.before.if2.false c.before.key-word.ensures c.bits-apart.ensures)
-    (λ c. claims_none c.before.before.before.before.before.requires c.if1.false))
+    (λ c. claims_long c.requires c.if-f.true c.if-f-lt44.false c.key_word-word.ensures c.bits_apart.ensures)
+    (λ c. claims_none c.requires c.if-f.false))

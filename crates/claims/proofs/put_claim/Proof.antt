@@ -9,16 +9,16 @@ use native.Mathlib.Omega.{arith}
 use Rattle.claims.proofs.put_claim.Statement.{statement}
 use Rattle.claims.proofs.put_claim.Tie as tie
 
-returns : tie.Need-returns
+returns : tie.Need-returns-then-claims_snapshot
 returns c =
-    let a = c.before.before.before.before.before.before.before.before.before.args in
-    let yes = claim_yes a.book.now a.p (sym c.before.before.before.before.before.before.claims-snapshot.ensures ∙ c.before.before.before.before.before.if1.true) c.before.before.before.before.key-word.ensures in
-    (c.before.before.put-pair.ensures.0 ∙ ap (λ (l : List ℕ). pairs_of a.work.now a.n ++ l) yes, omega arith)
+    let a = c.args in
+    let yes = claim_yes a.book.now a.p (sym c.claims_snapshot.ensures ∙ c.if-claims_snapshot.true) c.key_word-snapshot.ensures in
+    (c.put_pair.ensures.0 ∙ ap (λ (l : List ℕ). pairs_of a.work.now a.n ++ l) yes, omega arith)
 
-returns_2 : tie.Need-returns-2
+returns_2 : tie.Need-returns
 returns_2 c =
-    let a = c.before.before.before.before.args in
-    let no = claim_no a.book.now a.p (sym c.before.claims-snapshot.ensures ∙ c.if1.false) in
+    let a = c.args in
+    let no = claim_no a.book.now a.p (sym c.claims_snapshot.ensures ∙ c.if-claims_snapshot.false) in
     (rw (no, append-nil (pairs_of a.work.now a.n)), omega arith)
 
 pub put_claim_spec : {M : Type 1} → statement M
@@ -26,7 +26,7 @@ put_claim_spec =
     tie.close
     (tie.spec
     (λ c κs. search rules)
-    (λ c κs. (c.before.before.before.before.requires.0, claims_word c.before.before.before.before.requires.0 (sym c.before.claims-snapshot.ensures ∙ c.if1.true)))
+    (λ c κs. (c.requires.0, claims_word c.requires.0 (sym c.claims_snapshot.ensures ∙ c.if-claims_snapshot.true)))
     (λ c. search rules)
     (λ c κs. search rules)
     (λ c. search rules)

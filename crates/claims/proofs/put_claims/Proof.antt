@@ -9,10 +9,10 @@ use native.Mathlib.Omega.{arith}
 use Rattle.claims.proofs.put_claims.Statement.{statement}
 use Rattle.claims.proofs.put_claims.Tie as tie
 
-abbrev invariant_loop : tie.invariant-loop
+abbrev invariant_loop : tie.invariant-loop-left
 invariant_loop book work₀ left₀ p₀ n₀ work left p n = Gathered claim_pair book left₀ p₀ work n left p × (length work ≡ length work₀)
 
-abbrev decreases_loop : tie.decreases-loop
+abbrev decreases_loop : tie.decreases-loop-left
 decreases_loop book work₀ left₀ p₀ n₀ work left p n = left
 
 pub put_claims_spec : {M : Type 1} → statement M
@@ -21,13 +21,13 @@ put_claims_spec =
     (tie.spec
     invariant_loop
     decreases_loop
-    (λ c. (none_yet (parts c.before.before.requires.0).keys_fit, refl))
-    (λ c κs. omega (arith, (parts c.before.before.before.before.requires.0).small, (step _ _ _ c.loop-test.true c.before.loop.invariant.0.fit).head))
-    (λ c κs. (at_key (parts c.before.before.before.before.before.before.requires.0).small c.before.before.loop-test.true c.before.before.before.loop.invariant.0.fit c.before.key-front.ensures, omega (arith, c.before.before.before.loop.invariant.0.few, c.before.before.before.before.before.before.requires.1)))
-    (λ c. let k = at_key (parts c.before.before.before.before.before.before.before.before.before.requires.0).small c.before.before.before.before.before.loop-test.true c.before.before.before.before.before.before.loop.invariant.0.fit c.before.before.before.before.key-front.ensures in omega (arith, at_end k, k.inside, k.small))
-    (λ c. let k = at_key (parts c.before.before.before.before.before.before.before.before.before.before.requires.0).small c.before.before.before.before.before.before.loop-test.true c.before.before.before.before.before.before.before.loop.invariant.0.fit c.before.before.before.before.before.key-front.ensures in omega (arith, at_end k, k.inside, k.small))
+    (λ c. (none_yet (parts c.requires.0).keys_fit, refl))
+    (λ c κs. omega (arith, (parts c.requires.0).small, (step _ _ _ c.loop-left-test.true c.loop-left.invariant.0.fit).head))
+    (λ c κs. (at_key (parts c.requires.0).small c.loop-left-test.true c.loop-left.invariant.0.fit c.key_front-f.ensures, omega (arith, c.loop-left.invariant.0.few, c.requires.1)))
+    (λ c. let k = at_key (parts c.requires.0).small c.loop-left-test.true c.loop-left.invariant.0.fit c.key_front-f.ensures in omega (arith, at_end k, k.inside, k.small))
+    (λ c. let k = at_key (parts c.requires.0).small c.loop-left-test.true c.loop-left.invariant.0.fit c.key_front-f.ensures in omega (arith, at_end k, k.inside, k.small))
     (λ c. search rules)
     (λ c. search rules)
-    (λ c. (one_more_lem c.before.before.before.before.before.before.before.loop.invariant.0 c.before.before.before.before.before.before.loop-test.true c.before.before.before.put-claim.ensures.1 c.before.before.before.put-claim.ensures.0 (at_end (at_key (parts c.before.before.before.before.before.before.before.before.before.before.requires.0).small c.before.before.before.before.before.before.loop-test.true c.before.before.before.before.before.before.before.loop.invariant.0.fit c.before.before.before.before.before.key-front.ensures)), search rules))
-    (λ c. c.before.loop.invariant.1)
-    (λ c. (all_put c.before.loop.invariant.0 (omega arith), omega (arith, c.before.loop.invariant.0.few))))
+    (λ c. (one_more_lem c.loop-left.invariant.0 c.loop-left-test.true c.put_claim-n.ensures.1 c.put_claim-n.ensures.0 (at_end (at_key (parts c.requires.0).small c.loop-left-test.true c.loop-left.invariant.0.fit c.key_front-f.ensures)), search rules))
+    (λ c. c.loop-left.invariant.1)
+    (λ c. (all_put c.loop-left.invariant.0 (omega arith), omega (arith, c.loop-left.invariant.0.few))))

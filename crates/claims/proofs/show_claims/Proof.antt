@@ -11,19 +11,19 @@ use native.Mathlib.Omega.{arith}
 use Rattle.claims.proofs.show_claims.Statement.{statement}
 use Rattle.claims.proofs.show_claims.Tie as tie
 
-abbrev invariant_loop : tie.invariant-loop
+abbrev invariant_loop : tie.invariant-loop-i
 invariant_loop w n out₀ counts₀ found₀ i₀ out counts found i = (i ≤ n) × (found ≤ i) × Begun (claim_findings (firsts w n)) (sink out₀ counts₀) (claim_findings (drop i (firsts w n))) found (sink out counts)
 
-abbrev decreases_loop : tie.decreases-loop
+abbrev decreases_loop : tie.decreases-loop-i
 decreases_loop w n out₀ counts₀ found₀ i₀ out counts found i = n - i
 
-loop_again : tie.Need-loop-preserved invariant_loop decreases_loop
+loop_again : tie.Need-loop-i-preserved invariant_loop decreases_loop
 loop_again c =
-    let r = c.before.before.before.before.before.before.before.before.run-end.ensures in (
+    let r = c.run_end-e.ensures in (
       r.inside,
-      omega (arith, r.past, c.before.before.before.before.emit-if.ensures.1, c.before.before.before.before.before.before.before.before.before.before.loop.invariant.1),
-      turn c.before.before.before.before.before.before.before.before.before.before.loop.invariant.2 c.before.before.before.before.emit-if.ensures.0
-          (run_findings c.before.before.before.before.before.before.before.before.before.before.before.before.before.before.args.w.now c.before.before.before.before.before.before.before.before.before.before.before.before.before.before.args.n (λ k. (c.before.before.before.before.before.before.before.shared-slice-known2.given k).fits) c.before.before.before.before.before.before.before.before.before.before.before.before.before.before.requires.2 r),
+      omega (arith, r.past, c.emit_if-found.ensures.1, c.loop-i.invariant.1),
+      turn c.loop-i.invariant.2 c.emit_if-found.ensures.0
+          (run_findings c.args.w.now c.args.n (λ k. (c.shared_slice_known-in-loop-i-1.given k).fits) c.requires.2 r),
     )
 
 pub show_claims_spec : {M : Type 1} → statement M
@@ -37,10 +37,10 @@ show_claims_spec =
     (λ c. search rules)
     (λ c. search rules)
     (λ c. search rules)
-    (λ c. omega (arith, c.before.run-end.ensures.past))
+    (λ c. omega (arith, c.run_end-e.ensures.past))
     (λ c κs. search rules)
-    (λ c. omega (arith, c.before.before.before.before.before.before.before.before.run-end.ensures.past, c.before.before.before.before.before.before.before.before.run-end.ensures.inside))
+    (λ c. omega (arith, c.run_end-e.ensures.past, c.run_end-e.ensures.inside))
     loop_again
-    (λ c. begun_length c.before.loop.invariant.2)
-    (λ c. begun_counts c.before.loop.invariant.2)
-    (λ c. (last c.before.loop.invariant.2 (no_findings _ _ _ c.loop-test.false), omega arith)))
+    (λ c. begun_length c.loop-i.invariant.2)
+    (λ c. begun_counts c.loop-i.invariant.2)
+    (λ c. (last c.loop-i.invariant.2 (no_findings _ _ _ c.loop-i-test.false), omega arith)))

@@ -15,11 +15,11 @@ use Rattle.claims.proofs.snapshot_claims.Tie as tie
 returns : tie.Need-returns
 unfolding snapshot_claims
 returns c =
-    let a = c.before.before.before.before.before.before.before.before.before.before.before.before.before.before.before.before.before.before.before.before.args in
+    let a = c.args in
     let s = a.book.now in
-    let sorted = c.before.before.before.before.before.before.before.before.before.before.sort-pairs.ensures.0 ∙ ap sort (c.before.before.before.before.before.before.before.before.before.before.before.before.before.before.put-claims.ensures.0 ∙ claims_paired s a.h.keys a.at.keys) in
+    let sorted = c.sort_pairs.ensures.0 ∙ ap sort (c.put_claims-n.ensures.0 ∙ claims_paired s a.h.keys a.at.keys) in
     let e = sorted_findings (claimed (keys_from s a.h.keys a.at.keys)) _ _ sorted in
-    (rw ((parts c.before.before.before.before.before.before.before.before.before.before.before.before.before.before.before.before.before.before.before.before.requires.0).keys, ← e) c.before.before.before.before.show-claims.ensures.0, omega arith)
+    (rw ((parts c.requires.0).keys, ← e) c.show_claims.ensures.0, omega arith)
 
 pub snapshot_claims_spec : {M : Type 1} → statement M
 snapshot_claims_spec =
@@ -27,7 +27,7 @@ snapshot_claims_spec =
     (tie.spec
     (λ c κs. search rules)
     (λ c κs. search rules)
-    (λ c κs. (omega arith, omega (arith, c.before.before.before.before.before.before.before.before.before.before.before.before.before.before.before), sorted_by _ _ c.before.before.before.before.before.sort-pairs.ensures.0))
+    (λ c κs. (omega arith, omega (arith, c.requires), sorted_by _ _ c.sort_pairs.ensures.0))
     (λ c. search rules)
     (λ c. search rules)
     (λ c. search rules)

@@ -10,18 +10,18 @@ use native.Mathlib.Omega.{arith}
 use Rattle.deletions.proofs.is_accounted.Statement.{statement}
 use Rattle.deletions.proofs.is_accounted.Tie as tie
 
-returns : tie.Need-returns
+returns : tie.Need-returns-then-f
 returns c =
-    let a = c.before.before.before.before.before.before.before.args in
-    let word = at_word c.before.before.before.before.before.before.before.requires 0 8 (at_least c.before.before.before.before.before.before.before.requires 20 34 8 c.before.before.if1.true) in
-    accounted_yes c.before.before.before.before.before.before.before.requires c.before.before.if1.true c.before.key-inode.ensures (c.le64.ensures ∙ ap (λ (q : ℕ). le_at a.book.now q 8) (sym (add-zero _)) ∙ word)
+    let a = c.args in
+    let word = at_word c.requires 0 8 (at_least c.requires 20 34 8 c.if-f.true) in
+    accounted_yes c.requires c.if-f.true c.key_inode-inode.ensures (c.le64-keys.ensures ∙ ap (λ (q : ℕ). le_at a.book.now q 8) (sym (add-zero _)) ∙ word)
 
 pub is_accounted_spec : {M : Type 1} → statement M
 is_accounted_spec =
     tie.close
     (tie.spec
     (λ c κs. search rules)
-    (λ c. omega (arith, at_end c.before.before.before.before.before.before.requires, c.before.before.before.before.before.before.requires.inside, c.before.before.before.before.before.before.requires.small))
-    (λ c κs. omega (arith, at_end c.before.before.before.before.before.before.requires, c.before.before.before.before.before.before.requires.inside, c.before.before.before.before.before.before.requires.small, at_least c.before.before.before.before.before.before.requires 20 34 8 c.before.if1.true))
+    (λ c. omega (arith, at_end c.requires, c.requires.inside, c.requires.small))
+    (λ c κs. omega (arith, at_end c.requires, c.requires.inside, c.requires.small, at_least c.requires 20 34 8 c.if-f.true))
     returns
-    (λ c. accounted_no c.before.before.before.before.before.requires c.if1.false))
+    (λ c. accounted_no c.requires c.if-f.false))

@@ -9,5 +9,5 @@ is_judged_spec =
     tie.close
     (tie.spec
     (λ c κs. search rules)
-    (λ c. judged_yes c.before.before.before.before.before.before.requires c.before.if1.true c.key-offset.ensures)
-    (λ c. judged_not c.before.before.before.before.before.requires c.if1.false))
+    (λ c. judged_yes c.requires c.if-f.true c.key_offset.ensures)
+    (λ c. judged_not c.requires c.if-f.false))

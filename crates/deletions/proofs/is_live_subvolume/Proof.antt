@@ -8,6 +8,6 @@ pub is_live_subvolume_spec : {M : Type 1} → statement M
 is_live_subvolume_spec =
     tie.close
     (tie.spec
-    (λ c κs. (c.before.before.before.before.before.requires, at_least c.before.before.before.before.before.requires 8 21 44 c.if1.true))
-    (λ c. subvolume_yes c.before.before.before.before.before.before.requires c.before.if1.true c.key-word.ensures)
-    (λ c. subvolume_no c.before.before.before.before.before.requires c.if1.false))
+    (λ c κs. (c.requires, at_least c.requires 8 21 44 c.if-f.true))
+    (λ c. subvolume_yes c.requires c.if-f.true c.key_word.ensures)
+    (λ c. subvolume_no c.requires c.if-f.false))

@@ -12,14 +12,14 @@ use Rattle.deletions.proofs.show_has_data.Tie as tie
 
 returns : tie.Need-returns
 returns c =
-    let a = c.before.before.before.before.before.before.before.before.before.before.before.args in
-    (added_as (ap (λ (b : Bool). when ((eqb a.state snap_no_keys || eqb a.state snap_deleted) && b) (finding 35 a.offset 0)) c.before.before.before.before.before.before.before.has-pair.ensures) c.before.before.before.before.emit-if.ensures.0, omega arith)
+    let a = c.args in
+    (added_as (ap (λ (b : Bool). when ((eqb a.state snap_no_keys || eqb a.state snap_deleted) && b) (finding 35 a.offset 0)) c.has_pair-data.ensures) c.emit_if.ensures.0, omega arith)
 
 pub show_has_data_spec : {M : Type 1} → statement M
 show_has_data_spec =
     tie.close
     (tie.spec
-    (λ c κs. (c.before.before.before.requires.0, c.before.before.before.requires.1))
+    (λ c κs. (c.requires.0, c.requires.1))
     (λ c κs. search rules)
     (λ c. search rules)
     (λ c. search rules)

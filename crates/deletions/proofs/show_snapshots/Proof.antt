@@ -13,29 +13,29 @@ use native.Mathlib.Omega.{arith}
 use Rattle.deletions.proofs.show_snapshots.Statement.{statement}
 use Rattle.deletions.proofs.show_snapshots.Tie as tie
 
-abbrev invariant_loop : tie.invariant-loop
+abbrev invariant_loop : tie.invariant-loop-left
 invariant_loop book work n out₀ counts₀ found₀ left₀ p₀ out counts found left p = KeysFit book left p × (found + left * 3 ≤ left₀ * 3) × Begun (each (λ _ k. set_findings (pairs_of work n) k) 0 (keys_from book left₀ p₀)) (sink out₀ counts₀) (each (λ _ k. set_findings (pairs_of work n) k) 0 (keys_from book left p)) found (sink out counts)
 
-abbrev decreases_loop : tie.decreases-loop
+abbrev decreases_loop : tie.decreases-loop-left
 decreases_loop book work n out₀ counts₀ found₀ left₀ p₀ out counts found left p = left
 
-loop_again : tie.Need-loop-preserved invariant_loop decreases_loop
+loop_again : tie.Need-loop-left-preserved invariant_loop decreases_loop
 loop_again c =
-    let s = c.before.before.before.before.before.before.before.before.before.before.before.before.before.before.before.args.book.now in
-    let left = c.before.before.before.before.before.before.before.before.before.before.loop.left in
-    let p = c.before.before.before.before.before.before.before.before.before.before.loop.p in
-    let some = c.before.before.before.before.before.before.before.before.before.loop-test.true in
-    let fit = c.before.before.before.before.before.before.before.before.before.before.loop.invariant.0 in
-    let ends = at_end (at_key (parts c.before.before.before.before.before.before.before.before.before.before.before.before.before.before.before.requires.0).small c.before.before.before.before.before.before.before.before.before.loop-test.true c.before.before.before.before.before.before.before.before.before.before.loop.invariant.0 c.before.before.before.before.before.before.before.before.key-front.ensures) in (
+    let s = c.args.book.now in
+    let left = c.loop-left.left in
+    let p = c.loop-left.p in
+    let some = c.loop-left-test.true in
+    let fit = c.loop-left.invariant.0 in
+    let ends = at_end (at_key (parts c.requires.0).small c.loop-left-test.true c.loop-left.invariant.0 c.key_front-f.ensures) in (
       rw ends (step s left p some fit).rest,
-      omega (arith, c.before.before.before.before.before.before.before.before.before.before.loop.invariant.1, c.before.before.before.before.before.show-snapshot.ensures.1, c.before.before.before.before.before.before.before.before.before.before.before.before.before.before.before, some),
-      turn c.before.before.before.before.before.before.before.before.before.before.loop.invariant.2 c.before.before.before.before.before.show-snapshot.ensures.0 (key_next (set_findings (pairs_of c.before.before.before.before.before.before.before.before.before.before.before.before.before.before.before.args.work.now c.before.before.before.before.before.before.before.before.before.before.before.before.before.before.before.args.n)) s left p some fit ends),
+      omega (arith, c.loop-left.invariant.1, c.show_snapshot-found.ensures.1, c.before.before.before.before.before.before.before.before.before.before.before.before.before.before.before, some),
+      turn c.loop-left.invariant.2 c.show_snapshot-found.ensures.0 (key_next (set_findings (pairs_of c.args.work.now c.args.n)) s left p some fit ends),
     )
 
 returns : tie.Need-returns invariant_loop decreases_loop
 returns c =
-    let done = each_none (λ _ k. set_findings (pairs_of c.before.before.before.before.before.before.args.work.now c.before.before.before.before.before.before.args.n) k) 0 (no_keys c.before.before.before.before.before.before.args.book.now c.before.loop.p {n = c.before.loop.left} (omega arith)) in
-    (rw (parts c.before.before.before.before.before.before.requires.0).keys (last c.before.loop.invariant.2 done), omega arith)
+    let done = each_none (λ _ k. set_findings (pairs_of c.args.work.now c.args.n) k) 0 (no_keys c.args.book.now c.loop-left.p {n = c.loop-left.left} (omega arith)) in
+    (rw (parts c.requires.0).keys (last c.loop-left.invariant.2 done), omega arith)
 
 pub show_snapshots_spec : {M : Type 1} → statement M
 show_snapshots_spec =
@@ -43,14 +43,14 @@ show_snapshots_spec =
     (tie.spec
     invariant_loop
     decreases_loop
-    (λ c. ((parts c.before.before.before.before.requires.0).keys_fit, omega arith, first))
-    (λ c κs. omega (arith, (parts c.before.before.before.before.before.before.requires.0).small, (step _ _ _ c.loop-test.true c.before.loop.invariant.0).head))
-    (λ c κs. (at_key (parts c.before.before.before.before.before.before.before.before.before.requires.0).small c.before.before.before.loop-test.true c.before.before.before.before.loop.invariant.0 c.before.before.key-front.ensures, c.before.before.before.before.before.before.before.before.before.requires.1, c.before.before.before.before.before.before.before.before.before.requires.2, omega (arith, c.before.before.before.before.loop.invariant.1, c.before.before.before.before.before.before.before.before.before)))
-    (λ c. let k = at_key (parts c.before.before.before.before.before.before.before.before.before.before.before.before.before.before.requires.0).small c.before.before.before.before.before.before.before.before.loop-test.true c.before.before.before.before.before.before.before.before.before.loop.invariant.0 c.before.before.before.before.before.before.before.key-front.ensures in omega (arith, at_end k, k.inside, k.small))
-    (λ c. let k = at_key (parts c.before.before.before.before.before.before.before.before.before.before.before.before.before.before.before.requires.0).small c.before.before.before.before.before.before.before.before.before.loop-test.true c.before.before.before.before.before.before.before.before.before.before.loop.invariant.0 c.before.before.before.before.before.before.before.before.key-front.ensures in omega (arith, at_end k, k.inside, k.small))
+    (λ c. ((parts c.requires.0).keys_fit, omega arith, first))
+    (λ c κs. omega (arith, (parts c.requires.0).small, (step _ _ _ c.loop-left-test.true c.loop-left.invariant.0).head))
+    (λ c κs. (at_key (parts c.requires.0).small c.loop-left-test.true c.loop-left.invariant.0 c.key_front-f.ensures, c.requires.1, c.requires.2, omega (arith, c.loop-left.invariant.1, c.before.before.before.before.before.before.before.before.before)))
+    (λ c. let k = at_key (parts c.requires.0).small c.loop-left-test.true c.loop-left.invariant.0 c.key_front-f.ensures in omega (arith, at_end k, k.inside, k.small))
+    (λ c. let k = at_key (parts c.requires.0).small c.loop-left-test.true c.loop-left.invariant.0 c.key_front-f.ensures in omega (arith, at_end k, k.inside, k.small))
     (λ c. search rules)
     (λ c. search rules)
     loop_again
-    (λ c. begun_length c.before.loop.invariant.2)
-    (λ c. begun_counts c.before.loop.invariant.2)
+    (λ c. begun_length c.loop-left.invariant.2)
+    (λ c. begun_counts c.loop-left.invariant.2)
     returns)

@@ -8,8 +8,8 @@ use Rattle.deletions.proofs.show_will_delete.Tie as tie
 
 returns : tie.Need-returns
 returns c = (
-  added_as (deleted_findings _ _ _ _ _ c.before.before.before.before.before.before.before.before.before.before.before.before.before.before.before.before.has-pair.ensures c.before.before.before.before.before.before.before.before.before.before.before.before.before.before.before.has-pair2.ensures c.before.before.before.before.before.before.before.before.before.before.before.before.before.before.has-pair3.ensures)
-      (added_more c.before.before.before.before.before.before.before.before.before.before.before.emit-if.ensures.0 c.before.before.before.before.emit-if2.ensures.0),
+  added_as (deleted_findings _ _ _ _ _ c.has_pair-live.ensures c.has_pair-one.ensures c.has_pair-other.ensures)
+      (added_more c.emit_if-found.ensures.0 c.emit_if.ensures.0),
   omega arith,
 )
 
@@ -17,9 +17,9 @@ pub show_will_delete_spec : {M : Type 1} → statement M
 show_will_delete_spec =
     tie.close
     (tie.spec
-    (λ c κs. (c.before.before.before.requires.0, c.before.before.before.requires.1))
-    (λ c κs. (c.before.before.before.before.requires.0, c.before.before.before.before.requires.1))
-    (λ c κs. (c.before.before.before.before.before.requires.0, c.before.before.before.before.before.requires.1))
+    (λ c κs. (c.requires.0, c.requires.1))
+    (λ c κs. (c.requires.0, c.requires.1))
+    (λ c κs. (c.requires.0, c.requires.1))
     (λ c κs. search rules)
     (λ c κs. search rules)
     (λ c. search rules)

@@ -12,11 +12,11 @@ use Rattle.deletions.proofs.snapshot_states.Tie as tie
 
 returns : tie.Need-returns
 returns c =
-    let a = c.before.before.before.before.before.before.before.before.before.before.before.before.before.before.before.before.before.before.before.before.args in
+    let a = c.args in
     let s = a.book.now in
-    let sorted = c.before.before.before.before.before.before.before.before.before.before.sort-pairs.ensures.0 ∙ ap sort c.before.before.before.before.before.before.before.before.before.before.before.before.before.before.put-sets.ensures.0 in
-    let all = parts c.before.before.before.before.before.before.before.before.before.before.before.before.before.before.before.before.before.before.before.before.requires.0 in
-    (rw (← sets_all (book_of s) s a.h.keys a.at.keys all.small all.keys_fit all.keys sorted) c.before.before.before.before.show-snapshots.ensures.0, omega arith)
+    let sorted = c.sort_pairs.ensures.0 ∙ ap sort c.put_sets-n.ensures.0 in
+    let all = parts c.requires.0 in
+    (rw (← sets_all (book_of s) s a.h.keys a.at.keys all.small all.keys_fit all.keys sorted) c.show_snapshots.ensures.0, omega arith)
 
 pub snapshot_states_spec : {M : Type 1} → statement M
 snapshot_states_spec =
@@ -24,7 +24,7 @@ snapshot_states_spec =
     (tie.spec
     (λ c κs. search rules)
     (λ c κs. search rules)
-    (λ c κs. (c.before.before.before.before.before.before.before.before.before.before.before.before.before.before.before.requires.0, omega arith, sorted_by _ _ c.before.before.before.before.before.sort-pairs.ensures.0))
+    (λ c κs. (c.requires.0, omega arith, sorted_by _ _ c.sort_pairs.ensures.0))
     (λ c. search rules)
     (λ c. search rules)
     (λ c. search rules)
