@@ -9,11 +9,11 @@ use Rattle.judge.proofs.judge.Tie as tie
 
 returns : tie.Need-returns
 returns c =
-    let one = c.before.before.before.before.before.before.before.before.before.before.before.before.before.before.before.judge-keys in
-    let two = c.before.before.before.before.before.before.judge-across in
-    let from = c.before.before.before.before.before.before.before.before.before.before.start_of_lem in
+    let one = c.judge_keys-keys in
+    let two = c.judge_across in
+    let from = c.start_of-from in
     let found = found_as (list_of _) (more_lent from.result one.result.count two.result from.ensures one.ensures.0 two.ensures.0) in
-    let keys = few_keys c.before.before.before.before.before.before.before.before.before.before.before.before.before.before.before.before.before.before.before.before.before.before.requires.0 in (
+    let keys = few_keys c.requires.0 in (
       found,
       (omega (arith, one.ensures.1.0, two.ensures.1, keys), found_counted found (omega (arith, one.ensures.1.0, two.ensures.1, keys))),
     )
@@ -28,7 +28,7 @@ judge_spec =
     (λ c. search rules)
     (λ c. search rules)
     (λ c κs. search rules)
-    (λ c. omega (arith, c.before.before.before.before.before.before.before.before.before.before.before.before.before.before.before.judge-keys.ensures.1.0, c.before.before.before.before.before.before.judge-across.ensures.1, few_keys c.before.before.before.before.before.before.before.before.before.before.before.before.before.before.before.before.before.before.before.before.before.before.requires.0))
+    (λ c. omega (arith, c.judge_keys-keys.ensures.1.0, c.judge_across.ensures.1, few_keys c.requires.0))
     (λ c. search rules)
     (λ c. search rules)
     (λ c. search rules)

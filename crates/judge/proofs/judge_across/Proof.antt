@@ -10,9 +10,9 @@ use Rattle.judge.proofs.judge_across.Tie as tie
 returns : tie.Need-returns
 unfolding across_rules
 returns c =
-    let one = c.before.before.before.before.before.before.before.before.before.before.before.before.before.before.before.before.before.judge-first in
-    let two = c.before.before.before.before.before.before.judge-last in
-    let from = c.before.before.before.before.before.before.before.before.before.before.start_of_lem in
+    let one = c.judge_first-n in
+    let two = c.judge_last in
+    let from = c.start_of-from in
     (more_lent from.result one.result two.result from.ensures one.ensures.0 two.ensures.0, omega (arith, one.ensures.1, two.ensures.1))
 
 pub judge_across_spec : {M : Type 1} → statement M
@@ -25,7 +25,7 @@ judge_across_spec =
     (λ c. search rules)
     (λ c. search rules)
     (λ c κs. search rules)
-    (λ c. omega (arith, c.before.before.before.before.before.before.before.before.before.before.before.before.before.before.before.before.before.judge-first.ensures.1, c.before.before.before.before.before.before.judge-last.ensures.1, few_keys c.before.before.before.before.before.before.before.before.before.before.before.before.before.before.before.before.before.before.before.before.before.before.before.before.before.requires.0))
+    (λ c. omega (arith, c.judge_first-n.ensures.1, c.judge_last.ensures.1, few_keys c.requires.0))
     (λ c. search rules)
     (λ c. search rules)
     (λ c. search rules)

@@ -7,8 +7,8 @@ use native.Mathlib.Omega.{arith}
 use Rattle.judge.proofs.judge_children.Statement.{statement}
 use Rattle.judge.proofs.judge_children.Tie as tie
 
-returns_2 : tie.Need-returns-2
-returns_2 c = (found_none (children_none _ (lacks_subvolumes _ c.before.before.before.before.before.before.requires.2 (both_false _ _ c.if1.false).0) (lacks_children _ c.before.before.before.before.before.before.requires.2 (both_false c.before.before.before.before.before.before.args.p.subvolumes _ c.if1.false).1)), omega arith)
+returns_2 : tie.Need-returns
+returns_2 c = (found_none (children_none _ (lacks_subvolumes _ c.requires.2 (both_false _ _ c.if-p.false).0) (lacks_children _ c.requires.2 (both_false c.args.p.subvolumes _ c.if-p.false).1)), omega arith)
 
 pub judge_children_spec : {M : Type 1} → statement M
 judge_children_spec = tie.close (tie.spec

@@ -10,10 +10,10 @@ use Rattle.judge.proofs.judge_first.Tie as tie
 returns : tie.Need-returns
 unfolding first_rules
 returns c =
-    let one = c.before.before.before.before.before.before.before.before.before.before.before.before.before.before.before.before.before.before.before.before.before.before.before.before.before.before.before.before.judge-subvolumes in
-    let two = c.before.before.before.before.before.before.before.before.before.before.before.before.before.before.before.before.before.judge-snapshots in
-    let three = c.before.before.before.before.before.before.judge-children in (
-      three_lent c.before.before.before.before.before.before.before.before.before.before.before.before.before.before.before.before.before.before.before.before.before.start_of_lem.result c.before.before.before.before.before.before.before.before.before.before.start-of2.result one.result two.result three.result c.before.before.before.before.before.before.before.before.before.before.before.before.before.before.before.before.before.before.before.before.before.start_of_lem.ensures c.before.before.before.before.before.before.before.before.before.before.start-of2.ensures
+    let one = c.judge_subvolumes-a in
+    let two = c.judge_snapshots in
+    let three = c.judge_children in (
+      three_lent c.start_of-from.result c.start_of-from-2.result one.result two.result three.result c.start_of-from.ensures c.start_of-from-2.ensures
           one.ensures.0 two.ensures.0 three.ensures.0,
       omega (arith, one.ensures.1, two.ensures.1, three.ensures.1),
     )
@@ -28,13 +28,13 @@ judge_first_spec =
     (λ c. search rules)
     (λ c. search rules)
     (λ c κs. search rules)
-    (λ c. omega (arith, c.before.before.before.before.before.before.before.before.before.before.before.before.before.before.before.before.before.judge-subvolumes.ensures.1, c.before.before.before.before.before.before.judge-snapshots.ensures.1, few_keys c.before.before.before.before.before.before.before.before.before.before.before.before.before.before.before.before.before.before.before.before.before.before.before.before.before.requires.0))
+    (λ c. omega (arith, c.judge_subvolumes-a.ensures.1, c.judge_snapshots.ensures.1, few_keys c.requires.0))
     (λ c κs. search rules)
     (λ c. search rules)
     (λ c. search rules)
     (λ c. search rules)
-    (λ c κs. let t = c.before.before.before.before.before.before.before.before.before.before.before.before.before.before.before.before.before.before.before.before.before.before.before.before.before.before.before.before.before in (t.requires.0, omega (arith, t.requires.1, c.before.before.before.before.before.before.before.before.before.before.judge-snapshots, c.before.before.before.before.before.before.before.before.before.before.before.before.before.before.before.before.before.before.before.before.before.judge-subvolumes), t.requires.2))
-    (λ c. omega (arith, c.before.before.before.before.before.before.before.before.before.before.before.before.before.before.before.before.before.before.before.before.before.before.before.before.before.before.before.before.judge-subvolumes.ensures.1, c.before.before.before.before.before.before.before.before.before.before.before.before.before.before.before.before.before.judge-snapshots.ensures.1, c.before.before.before.before.before.before.judge-children.ensures.1, few_keys c.before.before.before.before.before.before.before.before.before.before.before.before.before.before.before.before.before.before.before.before.before.before.before.before.before.before.before.before.before.before.before.before.before.before.before.before.requires.0))
+    (λ c κs. let t = c in (t.requires.0, omega (arith, t.requires.1, c.judge_snapshots, c.judge_subvolumes-a), t.requires.2))
+    (λ c. omega (arith, c.judge_subvolumes-a.ensures.1, c.judge_snapshots.ensures.1, c.judge_children.ensures.1, few_keys c.requires.0))
     (λ c. search rules)
     (λ c. search rules)
     (λ c. search rules)

@@ -7,13 +7,13 @@ use native.Mathlib.Omega.{arith}
 use Rattle.judge.proofs.judge_gens.Statement.{statement}
 use Rattle.judge.proofs.judge_gens.Tie as tie
 
-returns : tie.Need-returns
+returns : tie.Need-returns-then-p-h
 returns c =
-    let gens = c.before.before.before.before.before.before.bucket-gens-against-alloc in
+    let gens = c.bucket_gens_against_alloc in
     (gens.ensures.0, omega (arith, gens.ensures.1, c.before.before.before.before.before.before.before.before.before.before.before.before.before.before.before.before.before))
 
-returns_2 : tie.Need-returns-2
-returns_2 c = (found_none (gens_none _ (lacks_gens _ c.before.before.before.before.before.before.before.requires.2 (both_false _ _ c.if1.false).0) (no_gens c.before.before.before.before.before.before.before.requires.0 (both_false c.before.before.before.before.before.before.before.args.p.gens _ c.if1.false).1)), omega arith)
+returns_2 : tie.Need-returns
+returns_2 c = (found_none (gens_none _ (lacks_gens _ c.requires.2 (both_false _ _ c.if-p-h.false).0) (no_gens c.requires.0 (both_false c.args.p.gens _ c.if-p-h.false).1)), omega arith)
 
 pub judge_gens_spec : {M : Type 1} → statement M
 judge_gens_spec = tie.close (tie.spec

@@ -10,10 +10,10 @@ use Rattle.judge.proofs.judge_last.Tie as tie
 returns : tie.Need-returns
 unfolding last_rules
 returns c =
-    let one = c.before.before.before.before.before.before.before.before.before.before.before.before.before.before.before.before.before.before.before.before.before.before.before.before.before.before.before.before.judge-links in
-    let two = c.before.before.before.before.before.before.before.before.before.before.before.before.before.before.before.before.before.judge-gens in
-    let three = c.before.before.before.before.before.before.free-space in (
-      three_lent c.before.before.before.before.before.before.before.before.before.before.before.before.before.before.before.before.before.before.before.before.before.start_of_lem.result c.before.before.before.before.before.before.before.before.before.before.start-of2.result one.result two.result three.result c.before.before.before.before.before.before.before.before.before.before.before.before.before.before.before.before.before.before.before.before.before.start_of_lem.ensures c.before.before.before.before.before.before.before.before.before.before.start-of2.ensures
+    let one = c.judge_links-a in
+    let two = c.judge_gens in
+    let three = c.free_space in (
+      three_lent c.start_of-from.result c.start_of-from-2.result one.result two.result three.result c.start_of-from.ensures c.start_of-from-2.ensures
           one.ensures.0 two.ensures.0 three.ensures.0,
       omega (arith, one.ensures.1, two.ensures.1, three.ensures.1, c.before.before.before.before.before.before.before.before.before.before.before.before.before.before.before.before.before.before.before.before.before.before.before.before.before.before.before.before.before.before.before.before.before.before.before.before),
     )
@@ -28,13 +28,13 @@ judge_last_spec =
     (λ c. search rules)
     (λ c. search rules)
     (λ c κs. search rules)
-    (λ c. omega (arith, c.before.before.before.before.before.before.before.before.before.before.before.before.before.before.before.before.before.judge-links.ensures.1, c.before.before.before.before.before.before.judge-gens.ensures.1, few_keys c.before.before.before.before.before.before.before.before.before.before.before.before.before.before.before.before.before.before.before.before.before.before.before.before.before.requires.0))
+    (λ c. omega (arith, c.judge_links-a.ensures.1, c.judge_gens.ensures.1, few_keys c.requires.0))
     (λ c κs. search rules)
     (λ c. search rules)
     (λ c. search rules)
     (λ c. search rules)
     (λ c κs. search rules)
-    (λ c. omega (arith, c.before.before.before.before.before.before.before.before.before.before.before.before.before.before.before.before.before.before.before.before.before.before.before.before.before.before.before.before.judge-links.ensures.1, c.before.before.before.before.before.before.before.before.before.before.before.before.before.before.before.before.before.judge-gens.ensures.1, c.before.before.before.before.before.before.free-space.ensures.1, few_keys c.before.before.before.before.before.before.before.before.before.before.before.before.before.before.before.before.before.before.before.before.before.before.before.before.before.before.before.before.before.before.before.before.before.before.before.before.requires.0, c.before.before.before.before.before.before.before.before.before.before.before.before.before.before.before.before.before.before.before.before.before.before.before.before.before.before.before.before.before.before.before.before.before.before.before.before))
+    (λ c. omega (arith, c.judge_links-a.ensures.1, c.judge_gens.ensures.1, c.free_space.ensures.1, few_keys c.requires.0, c.before.before.before.before.before.before.before.before.before.before.before.before.before.before.before.before.before.before.before.before.before.before.before.before.before.before.before.before.before.before.before.before.before.before.before.before))
     (λ c. search rules)
     (λ c. search rules)
     (λ c. search rules)

@@ -10,15 +10,15 @@ use native.Mathlib.Omega.{arith}
 use Rattle.judge.proofs.judge_snapshots.Statement.{statement}
 use Rattle.judge.proofs.judge_snapshots.Tie as tie
 
-returns : tie.Need-returns
-returns c = (found_none (snapshots_none _ (lacks_snapshots _ c.before.before.before.before.before.before.requires.2 (not-true _ c.if1.true))), omega arith)
+returns : tie.Need-returns-then-not-p
+returns c = (found_none (snapshots_none _ (lacks_snapshots _ c.requires.2 (not-true _ c.if-not-p.true))), omega arith)
 
-returns_2 : tie.Need-returns-2
+returns_2 : tie.Need-returns
 unfolding snapshot_rules
 returns_2 c =
-    let one = c.before.before.before.before.before.before.before.before.before.before.before.before.before.before.snapshot-states in
-    let two = c.before.before.before.before.snapshot-subvol-flags in
-    let from = c.before.before.before.before.before.before.before.start_of_lem in
+    let one = c.snapshot_states-a in
+    let two = c.snapshot_subvol_flags in
+    let from = c.start_of-from in
     (more_lent from.result one.result two.result from.ensures one.ensures.0 two.ensures.0, omega (arith, one.ensures.1, two.ensures.1))
 
 pub judge_snapshots_spec : {M : Type 1} → statement M
@@ -32,7 +32,7 @@ judge_snapshots_spec =
     (λ c. search rules)
     (λ c. search rules)
     (λ c κs. search rules)
-    (λ c. omega (arith, c.before.before.before.before.before.before.before.before.before.before.before.before.before.before.snapshot-states.ensures.1, c.before.before.before.before.snapshot-subvol-flags.ensures.1, few_keys c.before.before.before.before.before.before.before.before.before.before.before.before.before.before.before.before.before.before.before.before.before.before.before.before.requires.0))
+    (λ c. omega (arith, c.snapshot_states-a.ensures.1, c.snapshot_subvol_flags.ensures.1, few_keys c.requires.0))
     (λ c. search rules)
     (λ c. search rules)
     (λ c. search rules)
