@@ -6,15 +6,14 @@ use borrow.Author.Rules.{rules}
 use Rattle.dockwrench.proofs.ask_ancestor.Statement.{statement}
 use Rattle.dockwrench.proofs.ask_ancestor.Tie as tie
 
-returns : tie.Need-returns
+returns : tie.Need-returns-in-Accepted
 unfolding ancestor_of
 returns c =
-    let arm = c.before.before in
-    rw (parse_accepted arm.before.before.before.before.args.book.now (opened _ (sym arm.before.before.scan.ensures ∙ arm.s.given.1)).accepted) c.root-above.ensures
+    rw (parse_accepted c.args.book.now (opened _ (sym c.scan-s.ensures ∙ c.in-Accepted.is)).accepted) c.root_above.ensures
 
-returns_2 : tie.Need-returns-2
+returns_2 : tie.Need-returns-in-Refused
 unfolding ancestor_of
-returns_2 c = rw (parse_refused c.before.before.before.before.before.args.book.now (sym c.before.before.before.scan.ensures ∙ c.before.s2.given.1))
+returns_2 c = rw (parse_refused c.args.book.now (sym c.scan-s.ensures ∙ c.in-Refused.is))
 
 pub ask_ancestor_spec : {M : Type 1} → statement M
 ask_ancestor_spec =
@@ -22,6 +21,6 @@ ask_ancestor_spec =
     (tie.spec
     (λ c κs. search rules)
     (λ c. search rules)
-    (λ c κs. opened _ (sym c.before.before.before.scan.ensures ∙ c.before.s.given.1)) (λ c. search rules)
+    (λ c κs. opened _ (sym c.scan-s.ensures ∙ c.in-Accepted.is)) (λ c. search rules)
     returns
     returns_2)

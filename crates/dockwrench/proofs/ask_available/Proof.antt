@@ -6,13 +6,13 @@ use borrow.Author.Rules.{rules}
 use Rattle.dockwrench.proofs.ask_available.Statement.{statement}
 use Rattle.dockwrench.proofs.ask_available.Tie as tie
 
-returns : tie.Need-returns
+returns : tie.Need-returns-in-Accepted
 unfolding availability_of
-returns c = rw (parse_accepted c.before.before.before.before.before.before.args.book.now (opened _ (sym c.before.before.before.before.scan.ensures ∙ c.before.before.s.given.1)).accepted) c.is-available.ensures
+returns c = rw (parse_accepted c.args.book.now (opened _ (sym c.scan-s.ensures ∙ c.in-Accepted.is)).accepted) c.is_available.ensures
 
-returns_2 : tie.Need-returns-2
+returns_2 : tie.Need-returns-in-Refused
 unfolding availability_of
-returns_2 c = rw (parse_refused c.before.before.before.before.before.args.book.now (sym c.before.before.before.scan.ensures ∙ c.before.s2.given.1))
+returns_2 c = rw (parse_refused c.args.book.now (sym c.scan-s.ensures ∙ c.in-Refused.is))
 
 pub ask_available_spec : {M : Type 1} → statement M
 ask_available_spec =
@@ -20,7 +20,7 @@ ask_available_spec =
     (tie.spec
     (λ c κs. search rules)
     (λ c. search rules)
-    (λ c κs. opened _ (sym c.before.before.before.scan.ensures ∙ c.before.s.given.1))
+    (λ c κs. opened _ (sym c.scan-s.ensures ∙ c.in-Accepted.is))
     (λ c. search rules)
     returns
     returns_2)

@@ -8,9 +8,9 @@ use Rattle.dockwrench.proofs.check_all.Tie as tie
 
 returns : tie.Need-returns
 returns c =
-    let judged = c.before.before.before.before.before.before.before.before.before.before.judge.ensures in
-    let work = c.before.before.before.before.before.before.before.before.before.before.before.before.before.before.before.before.before.before.args.work.now in
-    (judged.0, (zeros_as _ (length work) c.before.before.zero-words.ensures (search rules), judged.1.0))
+    let judged = c.judge-count.ensures in
+    let work = c.args.work.now in
+    (judged.0, (zeros_as _ (length work) c.zero_words.ensures (search rules), judged.1.0))
 
 pub check_all_spec : {M : Type 1} → statement M
 check_all_spec =

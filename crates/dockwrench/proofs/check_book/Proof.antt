@@ -11,21 +11,20 @@ use native.Mathlib.Omega.{arith}
 use Rattle.dockwrench.proofs.check_book.Statement.{statement}
 use Rattle.dockwrench.proofs.check_book.Tie as tie
 
-returns : tie.Need-returns
+returns : tie.Need-returns-then-work-h
 unfolding check_book book_buffer book_work checked_answer
 returns c =
-    let e = short_is {words = length c.before.before.before.before.before.args.work.now} c.before.before.before.before.before.requires (omega (arith, c.if1.true)) in
+    let e = short_is {words = length c.args.work.now} c.requires (omega (arith, c.if-work-h.true)) in
     (rw e, (rw e, (rw e, (omega arith, claim_other (omega arith)))))
 
-returns_2 : tie.Need-returns-2
+returns_2 : tie.Need-returns
 unfolding check_book book_buffer book_work
 returns_2 c =
-    let t = c.before.before.before.before.before.before.before.before.before.before.before.before.before.before.before in
-    let e = short_not {words = length t.args.work.now} t.requires (omega (arith, c.before.before.before.before.before.before.before.before.before.before.if1.false)) in
-    let all = c.before.before.before.before.before.before.check-all in
-    let count = c.count-in in (
-      rw e (count.ensures ∙ ap (λ (n : ℕ). count_in (length t.args.findings.now) n) all.ensures.0.count),
-      (rw e all.ensures.0.buffer, (rw e all.ensures.1.0, (count_few _ _ count.ensures all.ensures.1.1, claim_judged (parse_accepted t.args.book.now t.requires.accepted) all.ensures.0 count.ensures))),
+    let e = short_not {words = length c.args.work.now} c.requires (omega (arith, c.if-work-h.false)) in
+    let all = c.check_all-count in
+    let count = c.count_in in (
+      rw e (count.ensures ∙ ap (λ (n : ℕ). count_in (length c.args.findings.now) n) all.ensures.0.count),
+      (rw e all.ensures.0.buffer, (rw e all.ensures.1.0, (count_few _ _ count.ensures all.ensures.1.1, claim_judged (parse_accepted c.args.book.now c.requires.accepted) all.ensures.0 count.ensures))),
     )
 
 pub check_book_spec : {M : Type 1} → statement M
@@ -36,8 +35,8 @@ check_book_spec =
     (λ c. search rules)
     returns
     (λ c. search rules)
-    (λ c κs. (c.before.before.before.before.before.before.before.before.requires, omega (arith, c.before.before.before.if1.false)))
-    (λ c κs. c.before.before.before.before.before.check-all.ensures.1.1)
+    (λ c κs. (c.requires, omega (arith, c.if-work-h.false)))
+    (λ c κs. c.check_all-count.ensures.1.1)
     (λ c. search rules)
     (λ c. search rules)
     returns_2)

@@ -8,17 +8,17 @@ use native.Mathlib.Omega.{arith}
 use Rattle.dockwrench.proofs.dockwrench_ancestor.Statement.{statement}
 use Rattle.dockwrench.proofs.dockwrench_ancestor.Tie as tie
 
-returns : tie.Need-returns
+returns : tie.Need-returns-in-Root
 unfolding ancestor_answer
-returns c = rw (sym c.before.before.before.before.ask-ancestor.ensures ∙ c.before.before.answer.given.1) c.pack.ensures
+returns c = rw (sym c.ask_ancestor-answer.ensures ∙ c.in-Root.is) c.pack.ensures
 
-returns_2 : tie.Need-returns-2
+returns_2 : tie.Need-returns-in-NoRoot
 unfolding ancestor_answer
-returns_2 c = rw (sym c.before.before.before.ask-ancestor.ensures ∙ c.before.enum_told.given.1) c.pack2.ensures
+returns_2 c = rw (sym c.ask_ancestor-answer.ensures ∙ c.in-NoRoot.is) c.pack-in-NoRoot.ensures
 
-returns_3 : tie.Need-returns-3
+returns_3 : tie.Need-returns-in-Refused
 unfolding ancestor_answer
-returns_3 c = rw (sym c.before.before.before.before.ask-ancestor.ensures ∙ c.before.before.answer2.given.1) c.pack3.ensures
+returns_3 c = rw (sym c.ask_ancestor-answer.ensures ∙ c.in-Refused.is) c.pack-in-Refused.ensures
 
 pub dockwrench_ancestor_spec : {M : Type 1} → statement M
 dockwrench_ancestor_spec =
@@ -28,11 +28,11 @@ dockwrench_ancestor_spec =
     (λ c. search rules)
     (λ c. search rules)
     (λ c. search rules)
-    (λ c κs. (omega arith, omega (arith, ancestor_links (parse c.before.before.before.before.before.args.book.now) c.before.before.before.before.before.args.id (sym c.before.before.before.ask-ancestor.ensures ∙ c.before.answer.given.1)), omega arith))
+    (λ c κs. (omega arith, omega (arith, ancestor_links (parse c.args.book.now) c.args.id (sym c.ask_ancestor-answer.ensures ∙ c.in-Root.is)), omega arith))
     (λ c. search rules)
     (λ c κs. search rules)
     (λ c. search rules)
-    (λ c κs. let b = ancestor_bounds c.before.before.before.before.before.args.book.now c.before.before.before.before.before.args.id (sym c.before.before.before.ask-ancestor.ensures ∙ c.before.answer2.given.1) in (omega (arith, b.0), omega (arith, b.1), omega arith))
+    (λ c κs. let b = ancestor_bounds c.args.book.now c.args.id (sym c.ask_ancestor-answer.ensures ∙ c.in-Refused.is) in (omega (arith, b.0), omega (arith, b.1), omega arith))
     returns
     returns_2
     returns_3)

@@ -8,31 +8,31 @@ use native.Mathlib.Omega.{arith}
 use Rattle.dockwrench.proofs.dockwrench_check.Statement.{statement}
 use Rattle.dockwrench.proofs.dockwrench_check.Tie as tie
 
-returns : tie.Need-returns
+returns : tie.Need-returns-in-Found
 unfolding checked_answer
 returns c =
-    let r = c.before.before.before.before.before.before.before.before.check.ensures in
-    let told = c.before.before.answer.given.1 in
+    let r = c.check-answer.ensures in
+    let told = c.in-Found.is in
     let e = sym r.0 ∙ told in
     let pack = c.pack.ensures in
     (rw e pack.0, (rw e pack.1, (r.1.0, (r.1.1.0, claim_as (ap checked_answer told ∙ sym pack.1) r.1.1.1.1))))
 
-returns_2 : tie.Need-returns-2
+returns_2 : tie.Need-returns-in-NoRoom
 unfolding checked_answer
 returns_2 c =
-    let r = c.before.before.before.before.before.before.before.before.check.ensures in
-    let told = c.before.before.answer2.given.1 in
+    let r = c.check-answer.ensures in
+    let told = c.in-NoRoom.is in
     let e = sym r.0 ∙ told in
-    let pack = c.pack2.ensures in
+    let pack = c.pack-in-NoRoom.ensures in
     (rw e pack.0, (rw e pack.1, (r.1.0, (r.1.1.0, claim_as (ap checked_answer told ∙ sym pack.1) r.1.1.1.1))))
 
-returns_3 : tie.Need-returns-3
+returns_3 : tie.Need-returns-in-Refused
 unfolding checked_answer
 returns_3 c =
-    let r = c.before.before.before.before.before.before.before.before.check.ensures in
-    let told = c.before.before.answer3.given.1 in
+    let r = c.check-answer.ensures in
+    let told = c.in-Refused.is in
     let e = sym r.0 ∙ told in
-    let pack = c.pack3.ensures in
+    let pack = c.pack-in-Refused.ensures in
     (rw e pack.0, (rw e pack.1, (r.1.0, (r.1.1.0, claim_as (ap checked_answer told ∙ sym pack.1) r.1.1.1.1))))
 
 pub dockwrench_check_spec : {M : Type 1} → statement M
@@ -41,11 +41,11 @@ dockwrench_check_spec =
     (tie.spec
     (λ c κs. search rules)
     (λ c. search rules)
-    (λ c κs. (omega arith, omega arith, found_few c.before.answer.given.1 c.before.before.before.before.before.before.before.check.ensures.1.1.1.0))
+    (λ c κs. (omega arith, omega arith, found_few c.in-Found.is c.check-answer.ensures.1.1.1.0))
     (λ c. search rules)
-    (λ c κs. (omega arith, omega arith, room_few c.before.answer2.given.1 c.before.before.before.before.before.before.before.check.ensures.1.1.1.0))
+    (λ c κs. (omega arith, omega arith, room_few c.in-NoRoom.is c.check-answer.ensures.1.1.1.0))
     (λ c. search rules)
-    (λ c κs. let b = check_bounds c.before.before.before.before.before.before.before.before.before.before.before.before.before.args.book.now _ _ (sym c.before.before.before.before.before.before.before.check.ensures.0 ∙ c.before.answer3.given.1) in (omega (arith, b.0), omega (arith, b.1), omega arith))
+    (λ c κs. let b = check_bounds c.args.book.now _ _ (sym c.check-answer.ensures.0 ∙ c.in-Refused.is) in (omega (arith, b.0), omega (arith, b.1), omega arith))
     (λ c. search rules)
     (λ c. search rules)
     returns

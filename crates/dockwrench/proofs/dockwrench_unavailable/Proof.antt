@@ -7,17 +7,17 @@ use native.Mathlib.Omega.{arith}
 use Rattle.dockwrench.proofs.dockwrench_unavailable.Statement.{statement}
 use Rattle.dockwrench.proofs.dockwrench_unavailable.Tie as tie
 
-returns : tie.Need-returns
+returns : tie.Need-returns-in-Unavailable
 unfolding availability_answer
-returns c = rw (sym c.before.before.before.ask-available.ensures ∙ c.before.enum_told.given.1) c.pack.ensures
+returns c = rw (sym c.ask_available-answer.ensures ∙ c.in-Unavailable.is) c.pack.ensures
 
-returns_2 : tie.Need-returns-2
+returns_2 : tie.Need-returns-in-Available
 unfolding availability_answer
-returns_2 c = rw (sym c.before.before.before.ask-available.ensures ∙ c.before.enum-told2.given.1) c.pack2.ensures
+returns_2 c = rw (sym c.ask_available-answer.ensures ∙ c.in-Available.is) c.pack-in-Available.ensures
 
-returns_3 : tie.Need-returns-3
+returns_3 : tie.Need-returns-in-Refused
 unfolding availability_answer
-returns_3 c = rw (sym c.before.before.before.before.ask-available.ensures ∙ c.before.before.answer.given.1) c.pack3.ensures
+returns_3 c = rw (sym c.ask_available-answer.ensures ∙ c.in-Refused.is) c.pack-in-Refused.ensures
 
 pub dockwrench_unavailable_spec : {M : Type 1} → statement M
 dockwrench_unavailable_spec =
@@ -29,7 +29,7 @@ dockwrench_unavailable_spec =
     (λ c. search rules)
     (λ c κs. search rules)
     (λ c. search rules)
-    (λ c κs. let b = available_bounds c.before.before.before.before.before.args.book.now c.before.before.before.before.before.args.id (sym c.before.before.before.ask-available.ensures ∙ c.before.answer.given.1) in (omega (arith, b.0), omega (arith, b.1), omega arith))
+    (λ c κs. let b = available_bounds c.args.book.now c.args.id (sym c.ask_available-answer.ensures ∙ c.in-Refused.is) in (omega (arith, b.0), omega (arith, b.1), omega arith))
     returns
     returns_2
     returns_3)

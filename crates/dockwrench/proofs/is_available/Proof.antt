@@ -5,13 +5,13 @@ use borrow.Author.Rules.{rules}
 use Rattle.dockwrench.proofs.is_available.Statement.{statement}
 use Rattle.dockwrench.proofs.is_available.Tie as tie
 
-returns : tie.Need-returns
+returns : tie.Need-returns-then-is_unavailable
 unfolding availability_by
-returns c = rw (sym c.before.is-unavailable.ensures ∙ c.if1.true)
+returns c = rw (sym c.is_unavailable.ensures ∙ c.if-is_unavailable.true)
 
-returns_2 : tie.Need-returns-2
+returns_2 : tie.Need-returns
 unfolding availability_by
-returns_2 c = rw (sym c.before.is-unavailable.ensures ∙ c.if1.false)
+returns_2 c = rw (sym c.is_unavailable.ensures ∙ c.if-is_unavailable.false)
 
 pub is_available_spec : {M : Type 1} → statement M
 is_available_spec =

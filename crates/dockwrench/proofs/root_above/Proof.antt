@@ -5,11 +5,11 @@ use borrow.Author.Rules.{rules}
 use Rattle.dockwrench.proofs.root_above.Statement.{statement}
 use Rattle.dockwrench.proofs.root_above.Tie as tie
 
-returns : tie.Need-returns
-returns c = found_root _ (sym c.before.before.before.root-above.ensures ∙ c.before.found.given.1)
+returns : tie.Need-returns-in-At
+returns c = found_root _ (sym c.root_above-found.ensures ∙ c.in-At.is)
 
-returns_2 : tie.Need-returns-2
-returns_2 c = found_none _ (sym c.before.before.root-above.ensures ∙ c.enum_told.given.1)
+returns_2 : tie.Need-returns-in-NoRoot
+returns_2 c = found_none _ (sym c.root_above-found.ensures ∙ c.in-NoRoot.is)
 
 pub root_above_spec : {M : Type 1} → statement M
 root_above_spec =
@@ -17,7 +17,7 @@ root_above_spec =
     (tie.spec
     (λ c κs. search rules)
     (λ c. search rules)
-    (λ c κs. asked_sourced _ _ c.before.before.before.requires c.before.asked-source.ensures)
+    (λ c κs. asked_sourced _ _ c.requires c.asked_source-source.ensures)
     (λ c. search rules)
     (λ c. search rules)
     returns

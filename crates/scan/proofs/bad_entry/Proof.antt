@@ -11,15 +11,15 @@ use Rattle.scan.proofs.bad_entry.Tie as tie
 
 returns : tie.Need-returns-then-not-t
 unfolding bad_rest
-returns c = rw c.if-not-t.true
+returns c = rw (not-true c.args.t.typed c.if-not-t.true)
 
 take_requires : tie.Need-take-rest-requires
-take_requires c κs = omega (arith, c.requires.0.typed c.if-not-t.false)
+take_requires c κs = omega (arith, c.requires.0.typed (not-false _ c.if-not-t.false))
 
 returns_2 : tie.Need-returns
 unfolding entry_at
 returns_2 c =
-    let typed = c.if-not-t.false in
+    let typed = not-false _ c.if-not-t.false in
     let form = c.requires.0.typed typed in
     c.bad_rest.ensures ∙ rw (typed, form.0, form.1) (ap (bad_rest true) c.take-rest.ensures.0)
 
