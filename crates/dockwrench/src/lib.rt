@@ -1,4 +1,4 @@
-// The main call, the two questions, and their C entries.
+// The main call, the two questions, and what their C entries answer, which are those of `dockwrench_c`.
 #![tactic(auto)]
 
 ghost use Rattle.std.specs.Prelude.{◌≡◌, ◌+◌, ◌*◌, ◌^◌, ◌<◌, ◌≤◌, length};
@@ -201,8 +201,7 @@ fn pack(number: usize, place: usize, count: usize) -> u64
 }
 
 // The main call for C.
-#[unsafe(no_mangle)]
-pub extern "C" fn dockwrench_check(book: &[u8], findings: &mut [u8], work: &mut [u64]) -> u64
+pub fn dockwrench_check(book: &[u8], findings: &mut [u8], work: &mut [u64]) -> u64
     ensures answer { result ≡ packed (checked_answer (check_of (parse book.now) (length findings.old) (length work.old))) }
     ensures apart { unpacked result ≡ checked_answer (check_of (parse book.now) (length findings.old) (length work.old)) }
     ensures buffer { findings.new ≡ buffer_after (parse book.now) (length work.old) findings.old }
@@ -218,8 +217,7 @@ pub extern "C" fn dockwrench_check(book: &[u8], findings: &mut [u8], work: &mut 
 }
 
 // The ancestor question for C.
-#[unsafe(no_mangle)]
-pub extern "C" fn dockwrench_ancestor(book: &[u8], id: u32) -> u64
+pub fn dockwrench_ancestor(book: &[u8], id: u32) -> u64
     ensures answer { result ≡ packed (ancestor_answer (ancestor_of (parse book.now) id)) }
     ensures apart { unpacked result ≡ ancestor_answer (ancestor_of (parse book.now) id) }
 {
@@ -232,8 +230,7 @@ pub extern "C" fn dockwrench_ancestor(book: &[u8], id: u32) -> u64
 }
 
 // The availability question for C.
-#[unsafe(no_mangle)]
-pub extern "C" fn dockwrench_unavailable(book: &[u8], id: u32) -> u64
+pub fn dockwrench_unavailable(book: &[u8], id: u32) -> u64
     ensures answer { result ≡ packed (availability_answer (availability_of (parse book.now) id)) }
     ensures apart { unpacked result ≡ availability_answer (availability_of (parse book.now) id) }
 {

@@ -5,7 +5,10 @@ ghost use Rattle.std.specs.Prelude.{◌≡◌, ◌++◌, ◌+◌, ◌/◌, ◌<�
 ghost use Rattle.io.specs.Counts.{IsPrefixLen};
 ghost use Rattle.lines.specs.Lines.{digit_of, decoded, line_length, mark_of};
 
-use libc::{STDIN_FILENO, STDOUT_FILENO};
+// The numbers of standard input and standard output.
+pub const STDIN_FILENO: i32 = 0;
+
+pub const STDOUT_FILENO: i32 = 1;
 
 // The value of a hexadecimal digit, and 0 for any other byte.
 pub fn digit(b: u8) -> u8
@@ -88,7 +91,7 @@ pub fn read_line(line: &mut [u8]) -> usize
     let mut n: usize = 0;
     while n < line.len() {
         let next = n + 1;
-        if libc::read(STDIN_FILENO, &mut line[n..next]) < 1 {
+        if io::read_full(STDIN_FILENO, &mut line[n..next]) < 1 {
             return n;
         }
         if line[n] == b'\n' {

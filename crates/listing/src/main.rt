@@ -4,16 +4,25 @@
 
 ghost use Rattle.listing.specs.Reading.{Within};
 
-use libc::{STDIN_FILENO, STDOUT_FILENO};
+use lines::STDOUT_FILENO;
 use report::Input;
+use std::io::{Read, Stdin};
+
+// What a read answered, as C's read answers: so many bytes, or -1 for an error.
+fn answer_of(read: std::io::Result<usize>) -> isize {
+    match read {
+        Ok(n) => isize::try_from(n).unwrap_or(isize::MAX),
+        Err(_) => -1,
+    }
+}
 
 // Reads standard input to its end, as far as there is room, unless a read fails. Nothing is known of the bytes.
-fn read_book(buffer: &mut [u8]) -> Input
+fn read_book(input: &mut Stdin, buffer: &mut [u8]) -> Input
     ensures { Within result buffer.new }
 {
     let mut n: usize = 0;
     while n < buffer.len() {
-        let answer = libc::read(STDIN_FILENO, &mut buffer[n..]);
+        let answer = answer_of(input.read(&mut buffer[n..]));
         match report::gave(answer, &buffer[n..]) {
             Input::Error => return Input::Error,
             Input::Bytes(more) => {
@@ -38,10 +47,10 @@ fn judge(book: &[u8]) {
     report::list(book, &mut findings, &mut work);
 }
 
-fn main() {
+fn main(rt: HostRuntime) {
     // a byte more than is judged
     let mut buffer = [0u8; 65537];
-    match read_book(&mut buffer) {
+    match read_book(&mut rt.stdin(), &mut buffer) {
         Input::Bytes(n) => judge(&buffer[..n]),
         Input::Error => {
             io::write_all(STDOUT_FILENO, b"not read\n");

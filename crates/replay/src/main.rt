@@ -6,7 +6,7 @@
 #![tactic(auto)]
 
 use dockwrench::{Ancestor, Availability, Checked};
-use libc::STDOUT_FILENO;
+use lines::STDOUT_FILENO;
 
 // Writes two numbers.
 fn write_two(first: usize, second: usize) {

@@ -7,7 +7,7 @@ ghost use Rattle.dockwrench.specs.Answers.{check_of, buffer_after, work_after};
 ghost use Rattle.report.specs.Reading.{gave_of};
 
 use dockwrench::Checked;
-use libc::STDOUT_FILENO;
+use lines::STDOUT_FILENO;
 
 // What a read gave: so many bytes, or an error.
 #[derive(Clone, Copy)]

@@ -18,7 +18,7 @@ ghost use Rattle.std.specs.Prelude.{◌≡◌, ◌*◌, ◌≤◌, length};
 ghost use Rattle.book.specs.Walk.{Opened};
 
 use book::{Header, Places, Scanned};
-use libc::STDOUT_FILENO;
+use lines::STDOUT_FILENO;
 use states::Version;
 use std::num;
 

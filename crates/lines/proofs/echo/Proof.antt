@@ -12,7 +12,6 @@ echo_spec =
     (tie.spec
     (λ c κs. search rules)
     (λ c κs. search rules)
-    (λ c. search rules)
     (λ c κs. search rules)
-    (λ c. ap (λ (m : ℕ). eqb m c.before.before.before.before.before.before.args.first) c.before.before.before.before.mark.ensures)
-    (λ c. ap (λ (m : ℕ). eqb m c.before.before.before.args.first) c.before.mark.ensures))
+    (λ c. ap (λ (m : ℕ). eqb m c.args.first) c.mark.ensures)
+    (λ c. ap (λ (m : ℕ). eqb m c.args.first) c.mark.ensures))

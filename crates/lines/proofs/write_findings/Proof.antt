@@ -6,10 +6,10 @@ use borrow.Author.Rules.{rules}
 use Rattle.lines.proofs.write_findings.Statement.{statement}
 use Rattle.lines.proofs.write_findings.Tie as tie
 
-abbrev invariant_loop : tie.invariant-loop
+abbrev invariant_loop : tie.invariant-loop-k
 invariant_loop out count before k₀ k = (k ≤ count) × (k ≤ length out / 17)
 
-abbrev decreases_loop : tie.decreases-loop
+abbrev decreases_loop : tie.decreases-loop-k
 decreases_loop out count before k₀ k = length out / 17 - k
 
 pub write_findings_spec : {M : Type 1} → statement M

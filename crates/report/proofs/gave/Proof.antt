@@ -8,6 +8,6 @@ pub gave_spec : {M : Type 1} → statement M
 gave_spec =
     tie.close
     (tie.spec
-    (λ c. gave_error _ _ c.before.before.ranges.answer c.if1.true)
+    (λ c. gave_error _ _ c.ranges.answer c.if-answer-lt0.true)
     (λ c κs. search rules)
-    (λ c. gave_bytes _ _ c.before.before.before.ranges.answer _ c.before.if1.false c.count.ensures.1))
+    (λ c. gave_bytes _ _ c.ranges.answer _ c.if-answer-lt0.false c.count.ensures.1))
