@@ -3,10 +3,10 @@ use Rattle.std.proofs.Common.{◌-◌, ◌<◌, ◌≤◌, arith}
 use Rattle.pairs_run.proofs.digest.Statement.{statement}
 use Rattle.pairs_run.proofs.digest.Tie as tie
 
-abbrev invariant_loop : tie.invariant-loop
+abbrev invariant_loop : tie.invariant-loop-i
 invariant_loop w n h₀ i₀ h i = (i ≤ n) × (h < 4294967291)
 
-abbrev decreases_loop : tie.decreases-loop
+abbrev decreases_loop : tie.decreases-loop-i
 decreases_loop w n h₀ i₀ h i = n - i
 
 pub digest_spec : {M : Type 1} → statement M

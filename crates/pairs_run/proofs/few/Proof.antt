@@ -3,10 +3,10 @@ use Rattle.std.proofs.Common.{◌≡◌, ◌-◌, ◌≤◌, length, arith}
 use Rattle.pairs_run.proofs.few.Statement.{statement}
 use Rattle.pairs_run.proofs.few.Tie as tie
 
-abbrev invariant_loop : tie.invariant-loop
+abbrev invariant_loop : tie.invariant-loop-i
 invariant_loop w₀ sizes first kinds i₀ w i = (i ≤ length sizes) × (length w ≡ length w₀)
 
-abbrev decreases_loop : tie.decreases-loop
+abbrev decreases_loop : tie.decreases-loop-i
 decreases_loop w₀ sizes first kinds i₀ w i = length sizes - i
 
 pub few_spec : {M : Type 1} → statement M
@@ -24,5 +24,5 @@ few_spec =
     (λ c. omega arith)
     (λ c. omega arith)
     (λ c. omega arith)
-    (λ c. c.before.loop.invariant.1)
+    (λ c. c.loop-i.invariant.1)
     (λ c. tt))

@@ -3,10 +3,10 @@ use Rattle.std.proofs.Common.{◌≡◌, ◌-◌, ◌<◌, ◌≤◌, length, ar
 use Rattle.pairs_run.proofs.fill.Statement.{statement}
 use Rattle.pairs_run.proofs.fill.Tie as tie
 
-abbrev invariant_loop : tie.invariant-loop
+abbrev invariant_loop : tie.invariant-loop-i
 invariant_loop w₀ n first base second tail x₀ i₀ w x i = (i ≤ n) × (x < 65536) × (length w ≡ length w₀)
 
-abbrev decreases_loop : tie.decreases-loop
+abbrev decreases_loop : tie.decreases-loop-i
 decreases_loop w₀ n first base second tail x₀ i₀ w x i = n - i
 
 pub fill_spec : {M : Type 1} → statement M
@@ -26,5 +26,5 @@ fill_spec =
     (λ c. omega arith)
     (λ c. omega arith)
     (λ c. omega arith)
-    (λ c. c.before.loop.invariant.2)
+    (λ c. c.loop-i.invariant.2)
     (λ c. tt))

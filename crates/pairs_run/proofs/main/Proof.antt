@@ -4,8 +4,8 @@ use Rattle.std.proofs.Common.{rules}
 use Rattle.pairs_run.proofs.main.Statement.{statement}
 use Rattle.pairs_run.proofs.main.Tie as tie
 
-look_all_requires : tie.Need-look-all-requires
-look_all_requires c κs = (search rules, sorted_by _ _ c.before.before.before.before.before.sort-pairs2.ensures.0)
+look_all_requires : tie.Need-look_all-requires
+look_all_requires c κs = (search rules, sorted_by _ _ c.sort_pairs-2.ensures.0)
 
 pub main_spec : {M : Type 1} → statement M
 main_spec =

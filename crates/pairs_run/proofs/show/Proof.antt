@@ -3,10 +3,10 @@ use Rattle.std.proofs.Common.{◌-◌, ◌≤◌, arith}
 use Rattle.pairs_run.proofs.show.Statement.{statement}
 use Rattle.pairs_run.proofs.show.Tie as tie
 
-abbrev invariant_loop : tie.invariant-loop
+abbrev invariant_loop : tie.invariant-loop-i
 invariant_loop w n i₀ i = i ≤ n
 
-abbrev decreases_loop : tie.decreases-loop
+abbrev decreases_loop : tie.decreases-loop-i
 decreases_loop w n i₀ i = n - i
 
 pub show_spec : {M : Type 1} → statement M

@@ -5,10 +5,10 @@ use borrow.Author.Rules.{rules}
 use Rattle.replay.proofs.show_lines.Statement.{statement}
 use Rattle.replay.proofs.show_lines.Tie as tie
 
-abbrev invariant_loop : tie.invariant-loop
+abbrev invariant_loop : tie.invariant-loop-turns
 invariant_loop line₀ turns₀ line turns = length line ≡ length line₀
 
-abbrev decreases_loop : tie.decreases-loop
+abbrev decreases_loop : tie.decreases-loop-turns
 decreases_loop line₀ turns₀ line turns = turns
 
 pub show_lines_spec : {M : Type 1} → statement M

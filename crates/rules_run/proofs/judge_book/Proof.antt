@@ -10,7 +10,7 @@ judge_book_spec =
     (tie.spec
     (λ c κs. search rules)
     (λ c. search rules)
-    (λ c κs. opened _ (sym c.before.before.before.scan.ensures ∙ c.before.scanned.given.1))
+    (λ c κs. opened _ (sym c.scan-scanned.ensures ∙ c.in-Accepted.is))
     (λ c. search rules)
     (λ c κs. search rules)
     (λ c. search rules)

@@ -3,10 +3,10 @@ use Rattle.std.proofs.Common.{◌-◌, ◌<◌, length, rules}
 use Rattle.rules_run.proofs.number.Statement.{statement}
 use Rattle.rules_run.proofs.number.Tie as tie
 
-abbrev invariant_loop : tie.invariant-loop
+abbrev invariant_loop : tie.invariant-loop-at
 invariant_loop text x₀ at₀ x at = x < 65536
 
-abbrev decreases_loop : tie.decreases-loop
+abbrev decreases_loop : tie.decreases-loop-at
 decreases_loop text x₀ at₀ x at = length text - at
 
 pub number_spec : {M : Type 1} → statement M

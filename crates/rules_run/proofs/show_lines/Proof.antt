@@ -3,10 +3,10 @@ use Rattle.std.proofs.Common.{◌≡◌, length, rules}
 use Rattle.rules_run.proofs.show_lines.Statement.{statement}
 use Rattle.rules_run.proofs.show_lines.Tie as tie
 
-abbrev invariant_loop : tie.invariant-loop
+abbrev invariant_loop : tie.invariant-loop-turns
 invariant_loop line₀ s₀ turns₀ line s turns = length line ≡ length line₀
 
-abbrev decreases_loop : tie.decreases-loop
+abbrev decreases_loop : tie.decreases-loop-turns
 decreases_loop line₀ s₀ turns₀ line s turns = turns
 
 pub show_lines_spec : {M : Type 1} → statement M
