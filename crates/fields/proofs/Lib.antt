@@ -1,3 +1,4 @@
 pub mod Counters
+pub mod CounterTests
 pub mod Laws
 mod Examples

@@ -1,7 +1,7 @@
 -- `fields::no_counter` meets its contract: it tests for a length below 8.
 use native.Mathlib.Omega.{arith}
 use borrow.Author.Tests.{leb-true, le-leb}
-use Rattle.fields.proofs.Counters.{none_by_length}
+use Rattle.fields.proofs.CounterTests.{none_by_length}
 use Rattle.fields.proofs.no_counter.Statement.{statement}
 use Rattle.fields.proofs.no_counter.Tie as tie
 

@@ -1,7 +1,7 @@
 -- `fields::over_three_counters` meets its contract: it tests for a length of 32 or more.
 use native.Mathlib.Omega.{arith}
 use borrow.Author.Tests.{leb-true, le-leb}
-use Rattle.fields.proofs.Counters.{over_by_length}
+use Rattle.fields.proofs.CounterTests.{over_by_length}
 use Rattle.fields.proofs.over_three_counters.Statement.{statement}
 use Rattle.fields.proofs.over_three_counters.Tie as tie
 

@@ -5,28 +5,20 @@ use Rattle.dockwrench.specs.Answers.{check_of, buffer_after, work_after, checked
 use Rattle.dockwrench.proofs.Demand3.{claim_refused}
 use borrow.Author.Rules.{rules}
 use native.Mathlib.Omega.{arith}
-use Rattle.dockwrench.proofs.check.Statement.{statement}
-use Rattle.dockwrench.proofs.check.Tie as tie
+use Rattle.dockwrench.proofs.check.Goals as goal
 
-returns : tie.Need-returns-in-Accepted
+pub check_book-requires : goal.check_book-requires
+check_book-requires c = opened _ (sym c.scan-s.ensures ∙ c.in-Accepted.is)
+
+pub returns-in-Accepted : goal.returns-in-Accepted
 unfolding check_of buffer_after work_after checked_answer
-returns c =
+returns-in-Accepted c =
     let e = parse_accepted c.args.book.now (opened _ (sym c.scan-s.ensures ∙ c.in-Accepted.is)).accepted in
     let r = c.check_book.ensures in
-    (rw e r.0, (rw e r.1.0, (rw e r.1.1.0, r.1.1.1)))
+    record { answer = rw e r.answer; buffer = rw e r.buffer; work = rw e r.work; few = r.few; claim = r.claim }
 
-returns_2 : tie.Need-returns-in-Refused
+pub returns-in-Refused : goal.returns-in-Refused
 unfolding check_of buffer_after work_after checked_answer
-returns_2 c =
+returns-in-Refused c =
     let e = parse_refused c.args.book.now (sym c.scan-s.ensures ∙ c.in-Refused.is) in
-    (rw e, (rw e, (rw e, (omega arith, claim_refused e))))
-
-pub check_spec : {M : Type 1} → statement M
-check_spec =
-    tie.close
-    (tie.spec
-    (λ c κs. search rules)
-    (λ c. search rules)
-    (λ c κs. opened _ (sym c.scan-s.ensures ∙ c.in-Accepted.is)) (λ c. search rules) (λ c. search rules) (λ c. search rules)
-    returns
-    returns_2)
+    record { answer = rw e; buffer = rw e; work = rw e; few = omega arith; claim = claim_refused e }
