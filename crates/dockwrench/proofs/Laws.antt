@@ -1,5 +1,5 @@
 -- What the answers of the calls below say.
-use Prim.Native.Nat.{ℕ, ◌+◌, ◌*◌, ◌/◌, ◌%◌, ◌^◌, ◌≤◌, ◌<◌}
+use Prim.Native.Nat.{ℕ, ◌+◌, ◌*◌, ◌^◌, ◌≤◌, ◌<◌}
 use mathlib.Core.Path.{◌≡◌, refl, sym, ap, subst, ◌∙◌}
 use mathlib.Core.Bool.{Bool, true, false, cond}
 use mathlib.Core.List.{List, [], ◌∷◌, ◌++◌, append_assoc, append-nil}
@@ -19,7 +19,6 @@ use Rattle.book.proofs.Walk.{parts}
 use Rattle.rules.specs.Rules.{findings_of}
 use Rattle.book.specs.Refusals.{Outcome, parse}
 use Rattle.book.proofs.Bounds.{refused_bounds}
-use Rattle.parents.specs.declared.Root.{Root}
 use Rattle.parents.specs.declared.Source.{Source}
 use Rattle.parents.specs.declared.Source.TheVariants.{Table, Keys}
 use Rattle.parents.specs.Sources.{Sourced}

@@ -1,12 +1,11 @@
 -- What only contracts of private functions cite.
-use Rattle.std.specs.Prelude.{ℕ, ◌*◌, ◌≤◌, Bool, false, cond, List, [], ◌∷◌, length}
+use Rattle.std.specs.Prelude.{ℕ, ◌*◌, ◌≤◌, Bool, false, cond, List, length}
 use Rattle.std.proofs.Math.Option.{Option, none, some}
 use Rattle.pairs.specs.Pairs.{pairs_of}
 use Rattle.book.specs.declared.Header.{Header}
 use Rattle.book.specs.declared.Places.{Places}
 use Rattle.book.specs.declared.MaybeU32.{MaybeU32}
 use Rattle.book.specs.declared.MaybeU32.TheVariants.{Is, Absent}
-use Rattle.book.specs.Book.{Bkey}
 use Rattle.book.specs.Walk.{Opened}
 use Rattle.walk.specs.Keys.{key_at}
 use Rattle.parents.specs.declared.Root.{Root}

@@ -7,7 +7,6 @@ use lib.ListN.{replicate}
 use Rattle.bits.specs.Bits.{le_at}
 use Rattle.findings.specs.Findings.{Finding, finding, when, only}
 use Rattle.book.specs.Book.{Bkey, is}
-use Rattle.states.specs.declared.Nearest.{Nearest}
 use Rattle.states.specs.StateDistance.{bits_apart, nearer, state_distance, subvol_live, subvol_states}
 use Rattle.states.specs.CheckStateWords.{state_required, subvol_state_unset, subvolume_word, subvolume_state, check_state_words}
 

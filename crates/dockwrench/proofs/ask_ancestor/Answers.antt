@@ -2,7 +2,6 @@
 use mathlib.Core.Path.{sym, ◌∙◌}
 use Rattle.book.proofs.Walk.{opened, parse_accepted, parse_refused}
 use Rattle.dockwrench.specs.Answers.{ancestor_of}
-use borrow.Author.Rules.{rules}
 use Rattle.dockwrench.proofs.ask_ancestor.Goals as goal
 
 pub root_above-requires : goal.root_above-requires

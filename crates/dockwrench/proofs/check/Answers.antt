@@ -3,7 +3,6 @@ use mathlib.Core.Path.{sym, ◌∙◌}
 use Rattle.book.proofs.Walk.{opened, parse_accepted, parse_refused}
 use Rattle.dockwrench.specs.Answers.{check_of, buffer_after, work_after, checked_answer}
 use Rattle.dockwrench.proofs.Demand3.{claim_refused}
-use borrow.Author.Rules.{rules}
 use native.Mathlib.Omega.{arith}
 use Rattle.dockwrench.proofs.check.Goals as goal
 

@@ -1,7 +1,6 @@
 -- `drawn::last_with` meets its contract: by the two tests.
 use mathlib.Core.Path.{sym, ◌∙◌}
 use borrow.Author.Tests.{eq-eqb, ne_eqb}
-use borrow.Author.Rules.{rules}
 use Rattle.drawn.proofs.Scan.{at_holds}
 use Rattle.drawn.proofs.last_with.Goals as goal
 

@@ -1,6 +1,5 @@
 -- `drawn::later_place` meets its contract: the four cases of two places.
 use borrow.Author.Tests.{le-leb, lt-leb}
-use borrow.Author.Rules.{rules}
 use Rattle.maps.specs.LastKeys.{later}
 use Rattle.drawn.proofs.later_place.Goals as goal
 

@@ -2,7 +2,6 @@
 use native.Mathlib.Omega.{arith}
 use Rattle.walk.proofs.Gather.{at_end}
 use Rattle.maps.specs.Places.{place_pair}
-use borrow.Author.Rules.{rules}
 use Rattle.drawn.proofs.put_place.Goals as goal
 
 pub overflow_add-which : goal.overflow_add-which

@@ -1,6 +1,5 @@
 -- `fields::check_accounting_key` meets its contract: one finding after the other, if the kind is one of three.
 use mathlib.Core.Path.{refl}
-use borrow.Author.Tests.{not-true, not-false}
 use Rattle.findings.proofs.Laws.{added_more, added_as, added_not}
 use Rattle.fields.specs.CheckKeyFields.{accounting_position_bytes, accounting_kind, check_accounting_key}
 use Rattle.fields.proofs.Laws.{accounting_found}

@@ -1,6 +1,6 @@
 -- `fields::check_key_device` meets its contract: one finding after the other.
 use Rattle.findings.proofs.Laws.{begin, more}
-use Rattle.fields.specs.CheckKeyDevice.{elsewhere, check_key_device}
+use Rattle.fields.specs.CheckKeyDevice.{check_key_device}
 use borrow.Author.Rules.{rules}
 use native.Mathlib.Omega.{arith}
 use Rattle.fields.proofs.check_key_device.Statement.{statement}

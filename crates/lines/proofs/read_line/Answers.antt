@@ -1,10 +1,8 @@
 -- Each turn goes on by a byte that is no newline.
-use Prim.Native.Nat.{◌+◌, ◌-◌, ◌≤◌}
-use mathlib.Core.Path.{◌≡◌, refl, sym}
-use lib.ListN.{length, take, drop}
+use Prim.Native.Nat.{◌+◌}
+use mathlib.Core.Path.{refl, sym}
 use lib.Seq.{length-take-le}
 use native.Mathlib.Omega.{arith}
-use borrow.Author.Rules.{rules}
 use Rattle.lines.specs.Lines.{line_length}
 use Rattle.lines.proofs.Lines.{line_kept, line_grown, drop_later, byte_read}
 use Rattle.lines.proofs.read_line.Goals as goal

@@ -7,7 +7,6 @@ use Rattle.pairs.specs.Pairs.{sort}
 use Rattle.book.specs.Book.{book_of}
 use Rattle.book.proofs.Walk.{parts}
 use Rattle.links.proofs.Words.{links_marked, links_unmarked}
-use borrow.Author.Rules.{rules}
 use Rattle.links.proofs.snapshot_links.Goals as goal
 
 pub returns-then-not-h : goal.returns-then-not-h

@@ -1,5 +1,4 @@
 -- `links::source_of` meets its contract: by the mark.
-use borrow.Author.Rules.{rules}
 use Rattle.links.specs.Steps.{source_of}
 use Rattle.links.proofs.source_of.Goals as goal
 

@@ -2,7 +2,6 @@
 use borrow.Author.Tests.{eq-eqb, ne_eqb}
 use Rattle.book.specs.Book.{data_type_of}
 use Rattle.book.specs.Walk.{maybe_u8}
-use borrow.Author.Rules.{rules}
 use Rattle.tables.proofs.data_type.Goals as goal
 
 pub returns-then-rest-eq1 : goal.returns-then-rest-eq1
