@@ -1,7 +1,7 @@
 #!/usr/bin/env bash
-# Writes what tools/list says, with its exit status, in a folder where a stand-in for rt proves nothing and installs a
-# program that writes the answer at hand: each answer, with the trees mark and without; input that is wrong, of which rt
-# must not hear; and two runs at once.
+# Writes what tools/list says, with its exit status, in a folder where a stand-in for tools/prove proves nothing and
+# installs a program that writes the answer at hand: each answer, with the trees mark and without; input that is wrong, of
+# which it must not hear; and two runs at once.
 # usage: tests/list.sh
 cd "$(dirname "$0")/.." || exit 1
 work=$(mktemp -d) || exit 1
@@ -9,8 +9,10 @@ trap 'rm -rf "$work"' EXIT
 mkdir "$work/bin" "$work/tools" "$work/in" "$work/tmp"
 cp tools/list tools/book tools/book.c "$work/tools"
 printf '%s\n' '# the listing needs three' 'bits:' 'book: bits' 'listing: book bits io' 'other: bits' >"$work/crates.txt"
-cat >"$work/bin/rt" <<'END'
+printf '#!/bin/sh\n' >"$work/bin/rt"
+cat >"$work/tools/prove" <<'END'
 #!/bin/sh
+cd "$(dirname "$0")/.." || exit 1
 echo "$*" >>"$WORK/called"
 sleep "$(cat "$WORK/wait")"
 echo 'rt: bits proved (unchanged since it was last proved)'
@@ -20,7 +22,7 @@ printf '#!/bin/sh\nod -An -tx1 >"$WORK/given"\ncat "$WORK/answer"\n' >target/bin
 chmod +x target/bin/listing
 exit "$(cat "$WORK/proves")"
 END
-chmod +x "$work/bin/rt"
+chmod +x "$work/bin/rt" "$work/tools/prove"
 export WORK=$work PATH=$work/bin:$PATH TMPDIR=$work/tmp
 echo 0 >"$work/wait"
 echo 0 >"$work/proves"

@@ -113,8 +113,8 @@ pub record Shown (s : List ℕ) (b : Book) (fs : List Finding) (after : List ℕ
   pub forest : ForestBook b
   pub list : findings_of b ≡ fs
   pub answer : check_of (parse s) (length buffer) (length work) ≡ checked.Found (length fs)
-  pub buffer_after : buffer_after (parse s) (length work) buffer ≡ after
-  pub work_after : work_after (parse s) work ≡ 0 ∷ 0 ∷ 0 ∷ 0 ∷ 0 ∷ 0 ∷ []
+  pub buffer_left : buffer_after (parse s) (length work) buffer ≡ after
+  pub work_left : work_after (parse s) work ≡ 0 ∷ 0 ∷ 0 ∷ 0 ∷ 0 ∷ 0 ∷ []
   pub decoded : decode (length fs) after ≡ fs
   pub demand : Demand3 b (findings_of b)
 
@@ -132,8 +132,8 @@ sound_shown drawn = (
     forest = forest_book drawn 0 2 1 1 1 1;
     list = no_findings drawn;
     answer = sound_answer drawn;
-    buffer_after = buffer_is (bytes drawn 1) (book drawn 0 2 1 1 1 1) [] 6 buffer (accepted drawn 1) (no_findings drawn);
-    work_after = work_is (bytes drawn 1) (book drawn 0 2 1 1 1 1) work (accepted drawn 1);
+    buffer_left = buffer_is (bytes drawn 1) (book drawn 0 2 1 1 1 1) [] 6 buffer (accepted drawn 1) (no_findings drawn);
+    work_left = work_is (bytes drawn 1) (book drawn 0 2 1 1 1 1) work (accepted drawn 1);
     decoded = refl;
     demand = demand_3 (book drawn 0 2 1 1 1 1) (forest_book drawn 0 2 1 1 1 1);
   },
@@ -157,8 +157,8 @@ unsound_shown drawn = (
     forest = forest_book drawn 0 2 1 0 1 1;
     list = one_finding drawn;
     answer = unsound_answer drawn;
-    buffer_after = buffer_is (bytes drawn 0) (book drawn 0 2 1 0 1 1) (finding 42 2 0 ∷ []) 6 buffer (accepted drawn 0) (one_finding drawn);
-    work_after = work_is (bytes drawn 0) (book drawn 0 2 1 0 1 1) work (accepted drawn 0);
+    buffer_left = buffer_is (bytes drawn 0) (book drawn 0 2 1 0 1 1) (finding 42 2 0 ∷ []) 6 buffer (accepted drawn 0) (one_finding drawn);
+    work_left = work_is (bytes drawn 0) (book drawn 0 2 1 0 1 1) work (accepted drawn 0);
     decoded = refl;
     demand = demand_3 (book drawn 0 2 1 0 1 1) (forest_book drawn 0 2 1 0 1 1);
   },
