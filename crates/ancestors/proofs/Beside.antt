@@ -1,9 +1,9 @@
 -- The ids above a snapshot, by those above its parent, its child, or another snapshot with the same parent.
+use Rattle.std.specs.Prelude.{None, Option, Some, is_some}
 use Prim.Native.Nat.{ℕ, zero, suc, ◌+◌, ◌-◌, ◌<◌, min}
 use mathlib.Core.Path.{◌≡◌, refl, sym, ap, ◌∙◌}
 use mathlib.Core.Bool.{true, cond}
 use mathlib.Core.List.{List, [], ◌∷◌}
-use mathlib.Core.Option.{Option, none, some}
 use native.Mathlib.Omega.{arith}
 use lib.ListN.{length, get_or, take, drop, replicate, length-take, length-append, length-replicate}
 use lib.Seq.{take_all, take-take, get_or-take}
@@ -14,9 +14,8 @@ use Rattle.book.specs.Maps.{lookup}
 use Rattle.parents.specs.Roots.{one_more, root_within, root_of}
 use Rattle.parents.specs.Chains.{root_answer, chain}
 use Rattle.ancestors.specs.Lines.{padded, ancestors_of, Lined}
-use Rattle.ancestors.specs.Steps.{is_rooted, with_links, root_below}
+use Rattle.ancestors.specs.Steps.{with_links, root_below}
 use Rattle.parents.specs.declared.Root.{Root}
-use Rattle.parents.specs.declared.Root.TheVariants.{At, NoRoot}
 use Rattle.ancestors.specs.declared.Ancestors.{Ancestors}
 use Rattle.ancestors.specs.declared.Line.{Line}
 use Rattle.parents.proofs.Links.{clash, link, by_link, by_step, link_top, link_absent, chain_more, chain_end, root_more, root_full, root_here, root_absent}
@@ -25,34 +24,34 @@ use Rattle.ancestors.proofs.Laws.{lined_few, array_is, root_is}
 
 -- a root at most n links away
 unfoldable within : ℕ → Option (ℕ × ℕ) → Option (ℕ × ℕ)
-within n none = none
-within n (some r) = cond (leb r.1 n) (some r) none
+within n None = None
+within n (Some r) = cond (leb r.1 n) (Some r) None
 
 within_more : (n : ℕ) (o : Option (ℕ × ℕ)) → one_more (within n o) ≡ within (suc n) (one_more o)
 unfolding within one_more
-within_more n none = refl
-within_more n (some r) =
+within_more n None = refl
+within_more n (Some r) =
     less_or_not n r.1
     (λ h. rw (lt-leb r.1 n h, lt-leb (suc r.1) (suc n) (omega arith)))
     (λ h. rw (le-leb r.1 n h, le-leb (suc r.1) (suc n) (omega arith)))
 
-within_none : (o : Option (ℕ × ℕ)) → none ≡ within 0 (one_more o)
+within_none : (o : Option (ℕ × ℕ)) → None ≡ within 0 (one_more o)
 unfolding within one_more
-within_none none = refl
-within_none (some r) = rw (lt-leb (suc r.1) 0 (omega arith))
+within_none None = refl
+within_none (Some r) = rw (lt-leb (suc r.1) 0 (omega arith))
 
-within_some : (n : ℕ) (o : Option (ℕ × ℕ)) {r : ℕ × ℕ} → within n o ≡ some r → o ≡ some r
+within_some : (n : ℕ) (o : Option (ℕ × ℕ)) {r : ℕ × ℕ} → within n o ≡ Some r → o ≡ Some r
 unfolding within
-within_some n none e = clash (cc)
-within_some n (some q) e =
+within_some n None e = clash (cc)
+within_some n (Some q) e =
     less_or_not n q.1
     (λ h. clash (cc (lt-leb q.1 n h)))
     (λ h. rw (le-leb q.1 n h) at e)
 
 below_is : (o : Option (ℕ × ℕ)) → root_answer (one_more (within 1023 o)) ≡ root_below (root_answer o)
 unfolding within one_more root_answer root_below
-below_is none = refl
-below_is (some r) =
+below_is None = refl
+below_is (Some r) =
     less_or_not 1023 r.1
     (λ h. rw (lt-leb r.1 1023 h, le-ltb r.1 1024 (omega arith)))
     (λ h. rw (le-leb r.1 1023 h, lt-ltb r.1 1024 (omega arith)))
@@ -63,10 +62,9 @@ without_first xs rest zero e = clash (cc)
 without_first [] rest (suc n) e = clash (cc)
 without_first (y ∷ ys) rest (suc n) e = let less : suc n - 1 ≡ n = omega arith in rw less (cc)
 
-rooted_at : (r : Root) → is_rooted r ≡ true → (top : ℕ) × (links : ℕ) × (r ≡ At top links)
-unfolding is_rooted
-rooted_at (At top links) e = (top, links, refl)
-rooted_at NoRoot e = clash (cc)
+rooted_at : (r : Option Root) → is_some r ≡ true → (top : ℕ) × (links : ℕ) × (r ≡ Some (record { root = top; links = links }))
+rooted_at (Some r) e = (r.root, r.links, refl)
+rooted_at None e = clash (cc)
 
 module _ (t : List (ℕ × ℕ)) where
   -- with one link fewer
@@ -91,30 +89,30 @@ module _ (t : List (ℕ × ℕ)) where
       (λ p a. rw (root_more t at n a, root_more t at (suc n) a, root_short n p) (within_more n (root_within t (suc n) p)))
 
   -- with a root, one link more leads no further
-  chain_all : (n at : ℕ) {r : ℕ × ℕ} → root_within t n at ≡ some r → chain t at (suc n) ≡ chain t at n
+  chain_all : (n at : ℕ) {r : ℕ × ℕ} → root_within t n at ≡ Some r → chain t at (suc n) ≡ chain t at n
   chain_all zero at e = by_step t at (λ a. chain_end t at 1 a ∙ sym (chain_end t at 0 a)) (λ p a. clash (cc (root_full t at a)))
   chain_all (suc n) at e =
       by_step t at (λ a. chain_end t at (suc (suc n)) a ∙ sym (chain_end t at (suc n) a)) (λ p a.
       let q = one_more_lem t _ (sym (root_more t at n a) ∙ e) in
       rw (chain_more t at (suc n) a, chain_more t at n a) (ap (λ (ids : List ℕ). p ∷ ids) (chain_all n p q.1)))
 
-  root_all_more : (n at : ℕ) {r : ℕ × ℕ} → root_within t n at ≡ some r → root_within t (suc n) at ≡ some r
+  root_all_more : (n at : ℕ) {r : ℕ × ℕ} → root_within t n at ≡ Some r → root_within t (suc n) at ≡ Some r
   root_all_more n at e = within_some n _ (sym (root_short n at) ∙ e)
 
   -- the root of a child
-  root_child : (id p : ℕ) → link t id ≡ some p → root_answer (root_of t id) ≡ root_below (root_answer (root_of t p))
+  root_child : (id p : ℕ) → link t id ≡ Some p → root_answer (root_of t id) ≡ root_below (root_answer (root_of t p))
   unfolding root_of
   root_child id p a = ap root_answer (root_more t id 1023 a ∙ ap one_more (root_short 1023 p)) ∙ below_is (root_within t 1024 p)
 
   -- ---- the lines of which nothing else is asked
   module _ (ids : List ℕ) (full : length ids ≡ 1024) (id near : ℕ) where
-    pub lined_top : lookup id t ≡ some 0 → Lined t ids (record { id = id; len = 0; root = At id 0; near = near })
+    pub lined_top : lookup id t ≡ Some 0 → Lined t ids (record { id = id; len = 0; root = Some (record { root = id; links = 0 }); near = near })
     unfolding root_of root_answer
     lined_top e =
         let none_above = chain_end t id 1024 (link_top t id e) in
         record { full = full; ids_are = sym none_above; len_is = rw none_above; root_is = rw (root_here t id 1024 e) }
 
-    pub lined_absent : lookup id t ≡ none → Lined t ids (record { id = id; len = 0; root = NoRoot; near = near })
+    pub lined_absent : lookup id t ≡ None → Lined t ids (record { id = id; len = 0; root = None; near = near })
     unfolding root_of root_answer
     lined_absent e =
         let none_above = chain_end t id 1024 (link_absent t id e) in
@@ -132,16 +130,16 @@ module _ (t : List (ℕ × ℕ)) where
 
   module _ {ids : List ℕ} {l : Line} (h : Lined t ids l) where
     -- the first id is the parent
-    lined_link : 0 < l.len → {p : ℕ} → get_or ids 0 0 ≡ p → link t l.id ≡ some p
+    lined_link : 0 < l.len → {p : ℕ} → get_or ids 0 0 ≡ p → link t l.id ≡ Some p
     lined_link some-above {p} e =
         by_step t l.id
         (λ a. let none_above : l.len ≡ 0 = h.len_is ∙ ap length (chain_end t l.id 1024 a) in absurd (omega arith))
         (λ q a.
         let first : get_or ids 0 0 ≡ q = sym (get_or-take l.len ids 0 0 some-above) ∙ ap (λ (xs : List ℕ). get_or xs 0 0) (h.ids_are ∙ chain_more t l.id 1023 a) in
-        a ∙ ap some (sym first ∙ e))
+        a ∙ ap Some (sym first ∙ e))
 
     -- two with the same parent
-    pub lined_beside : {id near p : ℕ} → link t id ≡ some p → 0 < l.len → get_or ids 0 0 ≡ p →
+    pub lined_beside : {id near p : ℕ} → link t id ≡ Some p → 0 < l.len → get_or ids 0 0 ≡ p →
         Lined t ids (record { id = id; len = l.len; root = l.root; near = near })
     lined_beside {id} {near} {p} a some-above e =
         let other = lined_link some-above e in
@@ -154,11 +152,11 @@ module _ (t : List (ℕ × ℕ)) where
         }
 
     -- a child
-    pub lined_down : {id near len p : ℕ} {array : List ℕ} {root : Root} → link t id ≡ some p → p ≡ l.id → len ≡ min (l.len + 1) 1024 →
+    pub lined_down : {id near len p : ℕ} {array : List ℕ} {root : Option Root} → link t id ≡ Some p → p ≡ l.id → len ≡ min (l.len + 1) 1024 →
         take len array ≡ take len (p ∷ ids) → length array ≡ 1024 → root ≡ root_below l.root →
         Lined t array (record { id = id; len = len; root = root; near = near })
     lined_down {id} {near} {len} {p} {array} b same size moved full root =
-        let a : link t id ≡ some l.id = b ∙ ap some same in
+        let a : link t id ≡ Some l.id = b ∙ ap Some same in
         let few = lined_few t h in
         let more : len ≡ suc (min l.len 1023) = omega arith in
         let above : chain t id 1024 ≡ l.id ∷ take 1023 (take l.len ids) =
@@ -175,7 +173,7 @@ module _ (t : List (ℕ × ℕ)) where
         }
 
     -- the parent
-    pub lined_up : {id near : ℕ} {array : List ℕ} {root : Root} → is_rooted l.root ≡ true → 0 < l.len → get_or ids 0 0 ≡ id →
+    pub lined_up : {id near : ℕ} {array : List ℕ} {root : Option Root} → is_some l.root ≡ true → 0 < l.len → get_or ids 0 0 ≡ id →
         take (l.len - 1) array ≡ take (l.len - 1) (drop 1 ids) → length array ≡ 1024 → root ≡ with_links l.root (l.len - 1) →
         Lined t array (record { id = id; len = l.len - 1; root = root; near = near })
     unfolding root_of root_answer one_more with_links
@@ -183,7 +181,7 @@ module _ (t : List (ℕ × ℕ)) where
         let other = lined_link some-above e in
         let r = rooted_at l.root rooted in
         let q = one_more_lem t _ (sym (root_more t l.id 1023 other) ∙ root_at (root_of t l.id) (sym h.root_is ∙ r.2)) in
-        let known : l.root ≡ At q.0.0 (suc q.0.1) = h.root_is ∙ ap root_answer (root_more t l.id 1023 other ∙ ap one_more q.1) in
+        let known : l.root ≡ Some (record { root = q.0.0; links = suc q.0.1 }) = h.root_is ∙ ap root_answer (root_more t l.id 1023 other ∙ ap one_more q.1) in
         let above : chain t l.id 1024 ≡ id ∷ chain t id 1023 = chain_more t l.id 1023 other in
         let all : chain t id 1024 ≡ chain t id 1023 = chain_all 1023 id q.1 in
         let links : l.len - 1 ≡ q.0.1 = omega (arith, h.len_is, ap length above, root_length t 1023 id q.1) in

@@ -1,17 +1,15 @@
 // The ids above a snapshot in an array of 1,024, found by a walk of its chain or from those above the snapshot before.
 #![tactic(auto)]
 
-ghost use Rattle.std.specs.Prelude.{◌≡◌, ◌∷◌, ◌+◌, ◌≤◌, ◌<◌, min, length, take, drop};
-ghost use Rattle.std.proofs.Math.Option.{some};
+ghost use Rattle.std.specs.Prelude.{◌≡◌, ◌∷◌, ◌+◌, ◌≤◌, ◌<◌, Some, min, length, take, drop};
 ghost use Rattle.pairs.specs.Pairs.{has};
 ghost use Rattle.book.specs.Maps.{lookup};
 ghost use Rattle.book.specs.Book.{book_of};
 ghost use Rattle.book.specs.KeyMaps.{parents_of};
 ghost use Rattle.parents.specs.Sources.{reach_of, Sourced};
 ghost use Rattle.ancestors.specs.Lines.{ancestors_of, Lined};
-ghost use Rattle.ancestors.specs.Steps.{is_rooted, with_links, root_below};
+ghost use Rattle.ancestors.specs.Steps.{with_links, root_below};
 
-use book::MaybeU32;
 use parents::{Root, Source, parent_in, reach};
 
 // The ids above a snapshot, nearest first, and the root.
@@ -19,7 +17,7 @@ use parents::{Root, Source, parent_in, reach};
 pub struct Ancestors {
     pub ids: [u32; 1024],
     pub len: usize,
-    pub root: Root,
+    pub root: Option<Root>,
 }
 
 // Which of three ids are among others.
@@ -36,7 +34,7 @@ pub struct Among {
 pub struct Line {
     pub id: u32,
     pub len: usize,
-    pub root: Root,
+    pub root: Option<Root>,
     pub near: usize,
 }
 
@@ -94,18 +92,17 @@ pub fn ancestors_of(
         put_hint(hints, below, found.at);
         below = found.at;
         from = near_parent(hints, below, far);
-        let parent = found.word;
-        let MaybeU32::Is(p) = parent else {
-            let root = Root::NoRoot;
+        let Some(p) = found.word else {
+            let root = None;
             return Ancestors { ids, len, root };
         };
         if p == 0 {
             let links = len as u32;
-            let root = Root::At { root: at, links };
+            let root = Some(Root { root: at, links });
             return Ancestors { ids, len, root };
         }
         if len == 1024 {
-            let root = Root::NoRoot;
+            let root = None;
             return Ancestors { ids, len, root };
         }
         ids[len] = p;
@@ -124,15 +121,13 @@ pub fn contains(ids: &[u32; 1024], len: usize, a: u32, b: u32, c: u32) -> Among
         b: false,
         c: false,
     };
-    let mut i = 0;
-    while i < len {
+    for i in 0..len {
         let id = ids[i];
         found = Among {
             a: found.a | (a == id),
             b: found.b | (b == id),
             c: found.c | (c == id),
         };
-        i += 1;
     }
     found
 }
@@ -142,13 +137,11 @@ fn put_first(ids: &mut [u32; 1024], end: usize, id: u32)
     requires { (end ≤ 1024) × (length ids.old ≡ 1024) }
     ensures { (take end ids.new ≡ take end (id ∷ ids.old)) × (length ids.new ≡ 1024) }
 {
-    let mut i = 0;
     let mut before = id;
-    while i < end {
+    for i in 0..end {
         let here = ids[i];
         ids[i] = before;
         before = here;
-        i += 1;
     }
 }
 
@@ -157,58 +150,31 @@ fn take_first(ids: &mut [u32; 1024], end: usize)
     requires { (end < 1024) × (length ids.old ≡ 1024) }
     ensures { (take end ids.new ≡ take end (drop 1 ids.old)) × (length ids.new ≡ 1024) }
 {
-    let mut i = 0;
-    while i < end {
-        let next = ids[i + 1];
-        ids[i] = next;
-        i += 1;
-    }
-}
-
-// One more than `len`, at most 1,024.
-fn one_longer(len: usize) -> usize
-    ensures { result ≡ min (len + 1) 1024 }
-{
-    if len < 1024 { len + 1 } else { 1024 }
-}
-
-// Whether a root is there.
-fn is_rooted(root: Root) -> bool
-    ensures { result ≡ is_rooted root }
-{
-    match root {
-        Root::At { root: _, links: _ } => true,
-        Root::NoRoot => false,
+    for i in 0..end {
+        ids[i] = ids[i + 1];
     }
 }
 
 // The root of a child, by its parent's: a link more, and none past 1,024.
-fn root_below(root: Root) -> Root
+fn root_below(root: Option<Root>) -> Option<Root>
     ensures { result ≡ root_below root }
 {
-    let Root::At { root: top, links } = root else {
-        return Root::NoRoot;
-    };
-    if links < 1024 {
-        return Root::At {
-            root: top,
-            links: links + 1,
-        };
+    let above = root?;
+    if above.links < 1024 {
+        return Some(Root {
+            root: above.root,
+            links: above.links + 1,
+        });
     }
-    Root::NoRoot
+    None
 }
 
 // A root with this number of links to it, where a root is there.
-fn with_links(root: Root, links: u32) -> Root
+fn with_links(root: Option<Root>, links: u32) -> Option<Root>
     ensures { result ≡ with_links root links }
 {
-    match root {
-        Root::At {
-            root: top,
-            links: _,
-        } => Root::At { root: top, links },
-        Root::NoRoot => Root::NoRoot,
-    }
+    let root = root?.root;
+    Some(Root { root, links })
 }
 
 // The line of `id`, by a walk of its chain with hints; `near` is a place near its own where the parents are found.
@@ -251,13 +217,13 @@ fn line_under(
     hints: &mut [u16],
 ) -> Line
     requires sourced { Sourced book.now work.now source × Lined (parents_of (book_of book.now)) ids.old line × (near ≤ reach_of source) }
-    requires book_value { (lookup id (parents_of (book_of book.now)) ≡ some p) × (0 < p) }
+    requires book_value { (lookup id (parents_of (book_of book.now)) ≡ Some p) × (0 < p) }
     ensures lined { Lined (parents_of (book_of book.now)) ids.new result }
     ensures same { (result.id ≡ id) × (result.near ≤ reach_of source) }
 {
     let root = line.root;
     if p == line.id {
-        let len = one_longer(line.len);
+        let len = (line.len + 1).min(1024);
         put_first(ids, len, p);
         let root = root_below(root);
         return Line {
@@ -295,12 +261,11 @@ fn line_by_parent(
 {
     let found = parent_in(book, work, source, line.near, id);
     let near = found.at;
-    let parent = found.word;
-    let MaybeU32::Is(p) = parent else {
+    let Some(p) = found.word else {
         return Line {
             id,
             len: 0,
-            root: Root::NoRoot,
+            root: None,
             near,
         };
     };
@@ -308,7 +273,7 @@ fn line_by_parent(
         return Line {
             id,
             len: 0,
-            root: Root::At { root: id, links: 0 },
+            root: Some(Root { root: id, links: 0 }),
             near,
         };
     }
@@ -334,8 +299,7 @@ pub fn line_beside(
         return line;
     }
     let root = line.root;
-    let rooted = is_rooted(root);
-    if (rooted & (0 < line.len)) & (ids[0] == id) {
+    if (root.is_some() & (0 < line.len)) & (ids[0] == id) {
         let len = line.len - 1;
         take_first(ids, len);
         let root = with_links(root, len as u32);

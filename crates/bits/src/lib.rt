@@ -1,7 +1,7 @@
 // Numbers in a byte slice: fields of any number of bits, the most significant first, and words of whole bytes.
 #![tactic(auto)]
 
-ghost use Rattle.std.specs.Prelude.{◌≡◌, ◌+◌, ◌*◌, ◌<◌, ◌≤◌, ◌/◌, ◌%◌, ◌^◌, min, length, get_or};
+ghost use Rattle.std.specs.Prelude.{◌≡◌, ◌+◌, ◌*◌, ◌<◌, ◌≤◌, ◌/◌, ◌%◌, ◌^◌, length, get_or};
 ghost use Rattle.bits.specs.Bits.{bits_at, be_at, le_at};
 
 // A place between bits: 8 times a byte's index, and the bits passed of that byte.
@@ -25,13 +25,6 @@ fn part(byte: u8, low: usize, size: usize) -> u64
     ((byte as u64) >> low) % (1u64 << size)
 }
 
-// The lesser of two numbers.
-pub fn least(a: usize, b: usize) -> usize
-    ensures { result ≡ min a b }
-{
-    if a < b { a } else { b }
-}
-
 // The number that the `n` bits from bit `from` on make: those of the last byte, below those before it.
 // A function that calls itself is not inlined, so `take` stays short enough to be.
 fn bits_by_byte(s: &[u8], from: usize, n: usize) -> u64
@@ -42,7 +35,7 @@ fn bits_by_byte(s: &[u8], from: usize, n: usize) -> u64
         return 0;
     }
     let last = from + n - 1;
-    let size = least(last % 8 + 1, n);
+    let size = (last % 8 + 1).min(n);
     (bits_by_byte(s, from, n - size) << size) + part(s[last / 8], 7 - last % 8, size)
 }
 

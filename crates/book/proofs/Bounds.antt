@@ -1,7 +1,7 @@
 -- A refusal's number is at most 13, and its place at most 1,048,576: an entry or a key is looked at only where the one
 -- before it lies within the book. And which books are refused by 13.
 use Prim.Native.Nat.{ℕ, zero, suc, ◌+◌, ◌≤◌, ◌<◌}
-use mathlib.Core.Path.{◌≡◌, refl}
+use mathlib.Core.Path.{◌≡◌, refl, ap}
 use mathlib.Core.Bool.{Bool, true, false, not, ◌&&◌}
 use mathlib.Core.Logic.{◌⊎◌, inl, inr}
 use mathlib.Core.List.{List}
@@ -12,33 +12,41 @@ use lib.Dec.{ltb, eqb}
 use Rattle.search.proofs.Bracket.{le_or_lt}
 use Rattle.book.specs.declared.Header.{Header}
 use Rattle.book.specs.declared.Table.{Table}
-use Rattle.book.specs.declared.Verdict.{Verdict}
-use Rattle.book.specs.declared.Verdict.TheVariants.{Passed, Refused}
+use Rattle.std.specs.Prelude.{Result, Ok, Err}
 use Rattle.book.specs.Book.{header_of, places_of, words_table, gens_table, alloc_table, key_end, Book, book_of}
-use Rattle.book.specs.Refusals.{refuse, ◌then◌, entry_verdict, table_verdict, key_verdict, keys_verdict, parts_verdict, parents_max, header_verdict, book_verdict, Outcome, outcome_of, parse}
+use Rattle.book.specs.Refusals.{refuse, ◌then◌, entry_verdict, table_verdict, key_verdict, keys_verdict, parts_verdict, parents_max, header_verdict, book_verdict, Outcome, outcome_of, parse, Verdict, refusal}
 use Rattle.book.proofs.Laws.{test_fails, entry_fits, key_fits}
 use Rattle.book.proofs.Tables.{table_rises}
 
 -- a refusal by this verdict has a number and a place that are not above these
 pub record Bounded (most : ℕ) (v : Verdict) : Type 0 where
-  pub bound : (n p : ℕ) → v ≡ Refused n p → (n ≤ most) × (p ≤ 1048576)
+  pub bound : (n p : ℕ) → v ≡ Err (refusal n p) → (n ≤ most) × (p ≤ 1048576)
 
-passes : {most : ℕ} → Bounded most Passed
+passes : {most : ℕ} → Bounded most (Ok tt)
 passes = record { bound = λ n p e. let z : ◌≡◌ {A = ℕ} 0 1 = cc in absurd (omega arith) }
 
+number_in : Verdict → ℕ
+number_in (Ok u) = 0
+number_in (Err r) = r.number
+
+place_in : Verdict → ℕ
+place_in (Ok u) = 0
+place_in (Err r) = r.place
+
 refuses : {most : ℕ} (b : Bool) (n p : ℕ) → n ≤ most → p ≤ 1048576 → Bounded most (refuse b n p)
-unfolding refuse
-refuses true n p h k = record { bound = λ m q e. let x : n ≡ m = cc in let y : p ≡ q = cc in (omega arith, omega arith) }
+unfolding refuse number_in place_in
+refuses true n p h k =
+    record { bound = λ m q e. let x : n ≡ m = ap number_in e in let y : p ≡ q = ap place_in e in (omega arith, omega arith) }
 refuses false n p h k = passes
 
 untested : {most : ℕ} (b : Bool) (n p : ℕ) → b ≡ false → Bounded most (refuse b n p)
 unfolding refuse
 untested b n p e = rw e passes
 
-in_turn : {most : ℕ} (v w : Verdict) → Bounded most v → (v ≡ Passed → Bounded most w) → Bounded most (v then w)
+in_turn : {most : ℕ} (v w : Verdict) → Bounded most v → (v ≡ Ok tt → Bounded most w) → Bounded most (v then w)
 unfolding ◌then◌
-in_turn Passed w h k = k refl
-in_turn (Refused n p) w h k = h
+in_turn (Ok u) w h k = k refl
+in_turn (Err r) w h k = h
 
 module _ (s : List ℕ) (small : length s ≤ 1048576) where
   entry_bounded : (t : Table) (start p : ℕ) → p ≤ length s → Bounded 8 (entry_verdict t s start p)
@@ -115,7 +123,7 @@ few_parents h which =
     few-of e (inr few) = few
 
 -- what a refusal by 13 says of the header
-pub counted : (s : List ℕ) {p : ℕ} → book_verdict s ≡ Refused 13 p → ((header_of s).drawn ≡ false) × (parents_max < (header_of s).parents)
+pub counted : (s : List ℕ) {p : ℕ} → book_verdict s ≡ Err (refusal 13 p) → ((header_of s).drawn ≡ false) × (parents_max < (header_of s).parents)
 counted s {p} e = (by-mark (header_of s).drawn refl, by_count (le_or_lt _ _))
   where
     never : ((header_of s).drawn ≡ true) ⊎ ((header_of s).parents ≤ parents_max) → {A : Type 0} → A
@@ -132,10 +140,10 @@ counted s {p} e = (by-mark (header_of s).drawn refl, by_count (le_or_lt _ _))
     by_count (inr many) = many
 
 -- the verdict on a book that is refused
-refused_by : (v : Verdict) (b : Book) {n p : ℕ} → outcome_of v b ≡ Outcome.refused n p → v ≡ Refused n p
+refused_by : (v : Verdict) (b : Book) {n p : ℕ} → outcome_of v b ≡ Outcome.refused n p → v ≡ Err (refusal n p)
 unfolding outcome_of
-refused_by Passed b e = let z : ◌≡◌ {A = ℕ} 0 1 = cc in absurd (omega arith)
-refused_by (Refused n p) b e = cc
+refused_by (Ok u) b e = let z : ◌≡◌ {A = ℕ} 0 1 = cc in absurd (omega arith)
+refused_by (Err r) b {n} {p} e = let x : r.number ≡ n = cc in let y : r.place ≡ p = cc in rw (← x, ← y)
 
 -- of every book that is refused
 pub refused_bounds : (s : List ℕ) {n p : ℕ} → parse s ≡ Outcome.refused n p → (n ≤ 13) × (p ≤ 1048576)

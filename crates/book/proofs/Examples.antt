@@ -1,21 +1,21 @@
 -- Document 01's examples of refusals, those of document 02's 12 and 13, what small books are read as, and which parents
 -- are drawn.
+use Rattle.std.specs.Prelude.{None, Some}
 use Prim.Native.Nat.{ℕ, ◌+◌, ◌/◌, ◌%◌, ◌^◌, ◌<◌, ◌≤◌}
 use mathlib.Core.Bool.{true, false}
-use mathlib.Core.Option.{none, some}
 use mathlib.Core.Path.{◌≡◌, refl}
 use mathlib.Core.List.{List, [], ◌∷◌, ◌++◌, map}
 use lib.ListN.{length, replicate, length-replicate}
 use native.Mathlib.Omega.{arith}
 use borrow.Author.Tests.{lt-ltb, le-ltb}
 use Rattle.bits.specs.Bits.{bit, bits_at, le_at}
-use Rattle.book.specs.declared.Verdict.TheVariants.{Passed, Refused}
+use Rattle.std.specs.Prelude.{Result, Ok, Err}
 use Rattle.findings.specs.Findings.{keep}
 use Rattle.book.specs.Book.{header_size, header_of, places_of, entry_at, data_type_of, table_from, key_head, key_end, is, Bkey, keys_from, book_of}
 use Rattle.book.specs.Maps.{insert, insert_all, collect}
 use Rattle.book.specs.Words.{holds, id_of}
 use Rattle.book.specs.KeyMaps.{map_of, drawn_from, parents_of}
-use Rattle.book.specs.Refusals.{refuse, ◌then◌, bad_rest, entry_verdict, table_verdict, key_verdict, keys_verdict, parts_verdict, parents_max, header_verdict, book_verdict}
+use Rattle.book.specs.Refusals.{refuse, ◌then◌, bad_rest, entry_verdict, table_verdict, key_verdict, keys_verdict, parts_verdict, parents_max, header_verdict, book_verdict, refusal}
 
 zeros : ℕ → List ℕ
 zeros n = replicate n 0
@@ -60,23 +60,23 @@ books =
     []
 
 examples : map book_verdict books ≡
-    Passed ∷ Refused 2 0 ∷ Refused 3 0 ∷ Refused 4 32 ∷ Refused 5 32 ∷ Refused 6 40 ∷ Refused 7 32 ∷ Passed ∷ Refused 8 32 ∷ Refused 12 0 ∷ Refused 3 0 ∷ Passed
-    ∷ Refused 4 32 ∷ Refused 4 32 ∷ Refused 13 0 ∷ Refused 13 0 ∷ Refused 13 0 ∷ Refused 3 0 ∷ Refused 12 0 ∷ Refused 4 32 ∷ []
+    Ok tt ∷ Err (refusal 2 0) ∷ Err (refusal 3 0) ∷ Err (refusal 4 32) ∷ Err (refusal 5 32) ∷ Err (refusal 6 40) ∷ Err (refusal 7 32) ∷ Ok tt ∷ Err (refusal 8 32) ∷ Err (refusal 12 0) ∷ Err (refusal 3 0) ∷ Ok tt
+    ∷ Err (refusal 4 32) ∷ Err (refusal 4 32) ∷ Err (refusal 13 0) ∷ Err (refusal 13 0) ∷ Err (refusal 13 0) ∷ Err (refusal 3 0) ∷ Err (refusal 12 0) ∷ Err (refusal 4 32) ∷ []
 unfolding zeros count header listing books bit bits_at refuse ◌then◌ header_of entry_at bad_rest entry_verdict table_verdict key_head key_end key_verdict keys_verdict places_of parts_verdict header_verdict book_verdict
 examples = refl
 
 -- the example of refusal 1, by the length alone
-past_the_limit : (s : List ℕ) → 1048576 < length s → book_verdict s ≡ Refused 1 0
+past_the_limit : (s : List ℕ) → 1048576 < length s → book_verdict s ≡ Err (refusal 1 0)
 unfolding refuse ◌then◌ book_verdict
 past_the_limit s long = simp (lt-ltb _ _ long)
 
-too_long : (n : ℕ) → 1048576 < n → book_verdict (zeros n) ≡ Refused 1 0
+too_long : (n : ℕ) → 1048576 < n → book_verdict (zeros n) ≡ Err (refusal 1 0)
 unfolding zeros
 too_long n long = past_the_limit (zeros n) (omega (arith, length-replicate {A = ℕ} n 0))
 
 -- 13 by the header alone, whatever follows it
 too_many : (s : List ℕ) → length s ≤ 1048576 → header_size ≤ length s → (header_of s).layout ≡ 1 → (header_of s).spare ≡ 0 →
-    (header_of s).drawn ≡ false → parents_max < (header_of s).parents → book_verdict s ≡ Refused 13 0
+    (header_of s).drawn ≡ false → parents_max < (header_of s).parents → book_verdict s ≡ Err (refusal 13 0)
 unfolding refuse ◌then◌ header_verdict book_verdict
 too_many s short long one spare table many = simp (le-ltb _ _ short, le-ltb _ _ long, one, spare, table, lt-ltb _ _ many)
 
@@ -89,10 +89,10 @@ small =
     ++ (9 ∷ 22 ∷ 0 ∷ 0x40 ∷ 0 ∷ 0 ∷ 1 ∷ 2 ∷ zeros 7) ++ (4 ∷ zeros 7) ++ (7 ∷ 0 ∷ 0 ∷ 0 ∷ 1 ∷ 0xab ∷ 0xcd ∷ [])
 
 what_it_holds :
-    (book_verdict small ≡ Passed)
+    (book_verdict small ≡ Ok tt)
     × ((book_of small).header.device ≡ 3) × ((book_of small).header.buckets ≡ 9) × ((book_of small).header.trees ≡ true)
     × (parents_of (book_of small) ≡ (7, 5) ∷ []) × ((book_of small).subvolumes ≡ (256, 7) ∷ []) × ((book_of small).gens ≡ (6, 200) ∷ [])
-    × ((book_of small).alloc ≡ (6, some 4) ∷ (8, none) ∷ [])
+    × ((book_of small).alloc ≡ (6, Some 4) ∷ (8, None) ∷ [])
     × ((book_of small).keys ≡
     record { btree = 9; key_type = 22; size = 258; inode = 4; offset = 7; snapshot = 1; value = 0xab ∷ 0xcd ∷ [] } ∷ [])
 unfolding zeros small bit bits_at refuse ◌then◌ header_of entry_at bad_rest entry_verdict table_verdict key_head key_end key_verdict keys_verdict places_of parts_verdict header_verdict book_verdict data_type_of table_from keys_from book_of parents_of

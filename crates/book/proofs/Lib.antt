@@ -4,3 +4,4 @@ pub mod Tables
 pub mod Walk
 mod Examples
 pub mod Bounds
+pub mod AtKey

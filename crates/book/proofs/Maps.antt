@@ -1,28 +1,21 @@
 -- What an answer of a search says of the map.
+use Rattle.std.specs.Prelude.{None, Option, Some}
 use Prim.Native.Nat.{ℕ}
 use mathlib.Core.Path.{◌≡◌, refl}
-use mathlib.Core.Option.{Option, none, some}
 use native.Mathlib.Omega.{arith}
-use Rattle.book.specs.declared.MaybeU8.TheVariants as u8
-use Rattle.book.specs.declared.MaybeU32.TheVariants as u32
-use Rattle.book.specs.Walk.{maybe_u8, maybe_u32}
 
-pub word_is : (o : Option ℕ) {x : ℕ} → maybe_u32 o ≡ u32.Is x → o ≡ some x
-unfolding maybe_u32
-word_is none e = let z : ◌≡◌ {A = ℕ} 0 1 = cc in absurd (omega arith)
-word_is (some y) e = cc
+pub word_is : (o : Option ℕ) {x : ℕ} → o ≡ Some x → o ≡ Some x
+word_is None e = let z : ◌≡◌ {A = ℕ} 0 1 = cc in absurd (omega arith)
+word_is (Some y) e = cc
 
-pub word_absent : (o : Option ℕ) → maybe_u32 o ≡ u32.Absent → o ≡ none
-unfolding maybe_u32
-word_absent none e = refl
-word_absent (some y) e = let z : ◌≡◌ {A = ℕ} 0 1 = cc in absurd (omega arith)
+pub word_absent : (o : Option ℕ) → o ≡ None → o ≡ None
+word_absent None e = refl
+word_absent (Some y) e = let z : ◌≡◌ {A = ℕ} 0 1 = cc in absurd (omega arith)
 
-pub byte_is : (o : Option ℕ) {x : ℕ} → maybe_u8 o ≡ u8.Is x → o ≡ some x
-unfolding maybe_u8
-byte_is none e = let z : ◌≡◌ {A = ℕ} 0 1 = cc in absurd (omega arith)
-byte_is (some y) e = cc
+pub byte_is : (o : Option ℕ) {x : ℕ} → o ≡ Some x → o ≡ Some x
+byte_is None e = let z : ◌≡◌ {A = ℕ} 0 1 = cc in absurd (omega arith)
+byte_is (Some y) e = cc
 
-pub byte_absent : (o : Option ℕ) → maybe_u8 o ≡ u8.Absent → o ≡ none
-unfolding maybe_u8
-byte_absent none e = refl
-byte_absent (some y) e = let z : ◌≡◌ {A = ℕ} 0 1 = cc in absurd (omega arith)
+pub byte_absent : (o : Option ℕ) → o ≡ None → o ≡ None
+byte_absent None e = refl
+byte_absent (Some y) e = let z : ◌≡◌ {A = ℕ} 0 1 = cc in absurd (omega arith)

@@ -10,7 +10,7 @@ use Rattle.bits.specs.Bits.{be_at}
 use Rattle.bits.proofs.Laws.{bits_be}
 use Rattle.search.proofs.Bracket.{rises}
 use Rattle.book.specs.declared.Table.{Table}
-use Rattle.book.specs.declared.Verdict.TheVariants.{Passed}
+use Rattle.std.specs.Prelude.{Result, Ok, Err}
 use Rattle.book.specs.Book.{words_table, entry_at, table_from}
 use Rattle.book.specs.Refusals.{entry_verdict, table_verdict}
 use Rattle.book.specs.Walk.{first_at, Rising}
@@ -30,8 +30,8 @@ module _ (t : Table) (s : List ℕ) (bytes : (j : ℕ) → get_or s j 0 < 256) (
       rw (width, place) (bits_be s bytes (p + k) m)
 
 -- each entry of a table that passes, passes
-pub entries_pass : (t : Table) (s : List ℕ) (start n i p : ℕ) → table_verdict t s start n p ≡ Passed → i < n →
-    entry_verdict t s start (p + i * t.size) ≡ Passed
+pub entries_pass : (t : Table) (s : List ℕ) (start n i p : ℕ) → table_verdict t s start n p ≡ Ok tt → i < n →
+    entry_verdict t s start (p + i * t.size) ≡ Ok tt
 unfolding table_verdict
 entries_pass t s start zero i p h l = absurd (not-suc-le-zero l)
 entries_pass t s start (suc n) zero p h l = rw (zero-mul, add-zero) (both_passed _ _ h).0
@@ -40,7 +40,7 @@ entries_pass t s start (suc n) (suc i) p h l =
     rw place (entries_pass t s start n i (p + t.size) (both_passed _ _ h).1 (le_of_suc-le-suc l))
 
 -- an entry that passes and is not the first is above the one before
-entry_rises : (t : Table) (s : List ℕ) (start p : ℕ) → entry_verdict t s start p ≡ Passed → start + t.size ≤ p →
+entry_rises : (t : Table) (s : List ℕ) (start p : ℕ) → entry_verdict t s start p ≡ Ok tt → start + t.size ≤ p →
     (entry_at t s (p - t.size)).first < (entry_at t s p).first
 unfolding entry_verdict
 entry_rises t s start p h later =
@@ -48,14 +48,14 @@ entry_rises t s start p h later =
     leb-false _ _ (rw (le-leb _ _ later) at no)
 
 -- a table that passes lies within the bytes
-table_inside : (t : Table) (s : List ℕ) (start n : ℕ) → start ≤ length s → table_verdict t s start n start ≡ Passed → start + n * t.size ≤ length s
+table_inside : (t : Table) (s : List ℕ) (start n : ℕ) → start ≤ length s → table_verdict t s start n start ≡ Ok tt → start + n * t.size ≤ length s
 table_inside t s start zero h v = rw zero-mul (omega arith)
 table_inside t s start (suc n) h v =
     let last = entry_fits t s start (start + n * t.size) (entries_pass t s start (suc n) n start v (omega arith)) in
     omega arith
 
 -- a table that passes rises
-pub table_rises : (t : Table) (s : List ℕ) (start n : ℕ) → start ≤ length s → table_verdict t s start n start ≡ Passed → Rising t s start n
+pub table_rises : (t : Table) (s : List ℕ) (start n : ℕ) → start ≤ length s → table_verdict t s start n start ≡ Ok tt → Rising t s start n
 table_rises t s start n h v = record {
   inside = table_inside t s start n h v;
   rises = rises (first_at t s start) n (λ i l.

@@ -12,18 +12,17 @@ use Rattle.book.specs.declared.Header.{Header}
 use Rattle.book.specs.declared.Places.{Places}
 use Rattle.book.specs.declared.KeyHead.{KeyHead}
 use Rattle.book.specs.declared.KeyFront.{KeyFront}
-use Rattle.book.specs.declared.Verdict.{Verdict}
-use Rattle.book.specs.declared.Verdict.TheVariants.{Passed, Refused}
-use Rattle.book.specs.declared.Scanned.TheVariants as scanned
+use Rattle.book.specs.declared.refusal.Refusal.{Refusal}
+use Rattle.std.specs.Prelude.{Result, Ok, Err}
 use Rattle.book.specs.Book.{header_of, places_of, words_table, gens_table, alloc_table, words_from, gens_from, alloc_from, key_head, key_end, key_of, keys_from, book_of}
 use Rattle.book.specs.KeyMaps.{drawn_from, parents_of}
-use Rattle.book.specs.Refusals.{keys_verdict, parts_verdict, book_verdict, Outcome, outcome_of, parse, scan_of}
+use Rattle.book.specs.Refusals.{keys_verdict, parts_verdict, book_verdict, Outcome, outcome_of, parse, Verdict, refusal}
 use Rattle.book.specs.Walk.{Opened, KeysFit, Rising, front_of}
-use Rattle.book.proofs.Laws.{both_passed, test_fails, key_end_lem, key_fits, scan_refused, scan_accepted}
+use Rattle.book.proofs.Laws.{both_passed, test_fails, key_end_lem, key_fits}
 use Rattle.book.proofs.Tables.{table_rises}
 
 -- where the keys pass, they fit
-keys_fit : (trees : Bool) (s : List ℕ) (n p : ℕ) → keys_verdict trees s n p ≡ Passed → KeysFit s n p
+keys_fit : (trees : Bool) (s : List ℕ) (n p : ℕ) → keys_verdict trees s n p ≡ Ok tt → KeysFit s n p
 unfolding keys_verdict KeysFit
 keys_fit trees s zero p h = tt
 keys_fit trees s (suc n) p h =
@@ -47,7 +46,7 @@ pub record Parts (s : List ℕ) (h : Header) (at : Places) : Type 0 where
   pub alloc : (book_of s).alloc ≡ alloc_from s h.alloc at.alloc
 
 -- the parts of accepted bytes
-accepted_parts : (s : List ℕ) → book_verdict s ≡ Passed → Parts s (header_of s) (places_of (header_of s))
+accepted_parts : (s : List ℕ) → book_verdict s ≡ Ok tt → Parts s (header_of s) (places_of (header_of s))
 unfolding book_verdict parts_verdict places_of book_of parents_of
 accepted_parts s accepted =
     let one = both_passed _ _ accepted in
@@ -94,28 +93,17 @@ fit_few s (suc n) p small fit = omega (arith, key_end_lem s p, room s n (key_end
 pub few_keys : {s : List ℕ} {h : Header} {at : Places} → Opened s h at → h.keys ≤ 37449
 few_keys {s} {h} {at} o = let p = parts o in fit_few s h.keys at.keys p.small p.keys_fit
 
--- what the answers of `scan` say of the bytes
-pub opened : (s : List ℕ) {h : Header} {at : Places} → scan_of (parse s) ≡ scanned.Accepted h at → Opened s h at
-opened s {h} {at} e = by-verdict (book_verdict s) refl
-  where
-    by-verdict : (v : Verdict) → book_verdict s ≡ v → Opened s h at
-    by-verdict Passed is = let both = scan_accepted s is in record { accepted = is; header = cc; places = cc }
-    by-verdict (Refused n p) is =
-        let refused = scan_refused s is in
-        let z : ◌≡◌ {A = ℕ} 0 1 = cc in
-        absurd (omega arith)
+-- the header and the places of bytes that pass
+pub opened : (s : List ℕ) → book_verdict s ≡ Ok tt → Opened s (header_of s) (places_of (header_of s))
+opened s e = record { accepted = e; header = refl; places = refl }
 
-pub parse_accepted : (s : List ℕ) → book_verdict s ≡ Passed → parse s ≡ Outcome.accepted (book_of s)
+pub parse_accepted : (s : List ℕ) → book_verdict s ≡ Ok tt → parse s ≡ Outcome.accepted (book_of s)
 unfolding parse outcome_of
 parse_accepted s h = rw h
 
-pub parse_refused : (s : List ℕ) {n p : ℕ} → scan_of (parse s) ≡ scanned.Refused n p → parse s ≡ Outcome.refused n p
-unfolding scan_of
-parse_refused s {n} {p} e = by-outcome (parse s) refl
-  where
-    by-outcome : (o : Outcome) → parse s ≡ o → parse s ≡ Outcome.refused n p
-    by-outcome (Outcome.accepted b) is = let z : ◌≡◌ {A = ℕ} 0 1 = cc in absurd (omega arith)
-    by-outcome (Outcome.refused m q) is = cc
+pub parse_refused : (s : List ℕ) {r : Refusal} → book_verdict s ≡ Err r → parse s ≡ Outcome.refused r.number r.place
+unfolding parse outcome_of
+parse_refused s h = rw h
 
 -- the step of a walk: with a key left, the keys are the one at p and those from its end on, it fits, and those fit
 pub record Step (s : List ℕ) (n p : ℕ) : Type 0 where

@@ -1,7 +1,6 @@
 -- What the bytes of a book say (document 01, "The entry"): header, tables and keys, packed most significant bit first.
 -- Which bytes are a book is said in Refusals. The records Header, Places, Table, Entry and KeyHead are those that src/lib.rt declares.
-use Rattle.std.specs.Prelude.{ℕ, zero, suc, ◌+◌, ◌-◌, ◌*◌, ◌/◌, ◌%◌, Bool, true, false, cond, ◌&&◌, List, [], ◌∷◌, take, drop, eqb}
-use Rattle.std.proofs.Math.Option.{Option, none, some}
+use Rattle.std.specs.Prelude.{ℕ, zero, suc, ◌+◌, ◌-◌, ◌*◌, ◌/◌, ◌%◌, Bool, true, false, cond, ◌&&◌, List, [], ◌∷◌, take, drop, eqb, None, Option, Some}
 use Rattle.bits.specs.Bits.{bits_at}
 use Rattle.book.specs.declared.Header.{Header}
 use Rattle.book.specs.declared.Places.{Places}
@@ -52,7 +51,7 @@ entry_at t s p = record { first = bits_at s (8 * p) t.first; rest = bits_at s (8
 
 -- the data type of an alloc entry, by the rest of its bits: none without has-type
 unfoldable pub data_type_of : ℕ → Option ℕ
-data_type_of rest = cond (eqb (rest / 32768) 1) (some (rest / 128 % 256)) none
+data_type_of rest = cond (eqb (rest / 32768) 1) (Some (rest / 128 % 256)) None
 
 -- the rest of an entry of the other three tables is one field
 abbrev pub whole_rest : ℕ → ℕ

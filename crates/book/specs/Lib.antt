@@ -5,3 +5,5 @@ pub mod Words
 pub mod KeyMaps
 pub mod Refusals
 pub mod Walk
+pub mod Keys
+pub mod Turns

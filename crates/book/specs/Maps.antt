@@ -1,12 +1,11 @@
 -- Maps from numbers, as Rust's BTreeMap: lists of pairs that rise by their first numbers.
-use Rattle.std.specs.Prelude.{cond, List, [], ◌∷◌, ℕ, suc, eqb, ltb}
-use Rattle.std.proofs.Math.Option.{Option, none, some}
+use Rattle.std.specs.Prelude.{cond, List, [], ◌∷◌, ℕ, suc, eqb, ltb, None, Option, Some}
 
 module _ {A : Type 0} where
   -- what the map has for x
   unfoldable pub lookup : ℕ → List (ℕ × A) → Option A
-  lookup x [] = none
-  lookup x (e ∷ m) = cond (eqb x e.0) (some e.1) (lookup x m)
+  lookup x [] = None
+  lookup x (e ∷ m) = cond (eqb x e.0) (Some e.1) (lookup x m)
 
   -- how many pairs of the map stand before the first that is not below x
   unfoldable pub lower_bound : ℕ → List (ℕ × A) → ℕ

@@ -1,25 +1,32 @@
 -- Which bytes are a book: document 01's refusals 1 to 8, "1, 2, 3; then entries from front to back, at each 4, 5, 6, 7;
 -- then 8", and document 02's 12, "tested after 3", and 13, "directly after 12".
-use Rattle.std.specs.Prelude.{ℕ, zero, suc, ◌+◌, ◌-◌, ◌/◌, ◌%◌, Bool, true, false, not, ◌&&◌, ◌||◌, List, length, ltb, leb, eqb}
+use Rattle.std.specs.Prelude.{ℕ, zero, suc, ◌+◌, ◌-◌, ◌/◌, ◌%◌, Bool, true, false, not, ◌&&◌, ◌||◌, List, length, ltb, leb, eqb, Result, Ok, Err}
 use Rattle.book.specs.declared.Header.{Header}
 use Rattle.book.specs.declared.Places.{Places}
 use Rattle.book.specs.declared.Table.{Table}
-use Rattle.book.specs.declared.Verdict.{Verdict}
-use Rattle.book.specs.declared.Verdict.TheVariants as verdict
-use Rattle.book.specs.declared.Scanned.{Scanned}
-use Rattle.book.specs.declared.Scanned.TheVariants as scanned
+use Rattle.book.specs.declared.refusal.Refusal.{Refusal}
+use Rattle.book.specs.declared.refusal.Reason.{Reason}
+use Rattle.book.specs.declared.refusal.Reason.TheVariants as reason
 use Rattle.book.specs.Book.{header_size, header_of, places_of, words_table, gens_table, alloc_table, entry_at, key_head, key_end, Book, book_of}
+
+-- a refusal's number and its place
+abbrev pub refusal : ℕ → ℕ → Refusal
+refusal number place = record { number = number; place = place }
+
+-- what a check of a book, or of a part of it, gives: nothing, or a refusal
+abbrev pub Verdict : Type 0
+Verdict = Result (Unit {0}) Refusal
 
 -- refused by this number at this place, if the test holds
 unfoldable pub refuse : Bool → ℕ → ℕ → Verdict
-refuse true number place = verdict.Refused number place
-refuse false number place = verdict.Passed
+refuse true number place = Err (refusal number place)
+refuse false number place = Ok tt
 
 infixr 20 ◌then◌
 -- the first refusal of two checks
 unfoldable pub ◌then◌ : Verdict → Verdict → Verdict
-verdict.Passed then v = v
-(verdict.Refused number place) then v = verdict.Refused number place
+(Ok passed) then v = v
+(Err r) then v = Err r
 
 -- the rest of an alloc entry (has-type 1 bit, data type 8, spare 7) with a spare bit set, or with a data type without has-type
 unfoldable pub bad_rest : Bool → ℕ → Bool
@@ -35,7 +42,7 @@ entry_verdict t s start p =
 
 -- the n entries from byte p on, of a table that starts at byte start
 unfoldable pub table_verdict : Table → List ℕ → ℕ → ℕ → ℕ → Verdict
-table_verdict t s start zero p = verdict.Passed
+table_verdict t s start zero p = Ok tt
 table_verdict t s start (suc n) p = entry_verdict t s start p then table_verdict t s start n (p + t.size)
 
 -- 4, 5 and 7 at the key at byte p: its "key head or value runs past the end"; "spare bit set"; "key of btree 15, mark clear"
@@ -86,14 +93,25 @@ pub data Outcome : Type 0 where
 
 -- the outcome by a verdict
 unfoldable pub outcome_of : Verdict → Book → Outcome
-outcome_of verdict.Passed b = accepted b
-outcome_of (verdict.Refused number place) b = refused number place
+outcome_of (Ok passed) b = accepted b
+outcome_of (Err r) b = refused r.number r.place
 
 -- "A book is accepted if none of 1 to 8 is given"; by 12, "a book so refused is not accepted", and so by 13
 unfoldable pub parse : List ℕ → Outcome
 parse s = outcome_of (book_verdict s) (book_of s)
 
--- what `scan` answers: of an accepted book its header and places, of another the refusal's number and place
-unfoldable pub scan_of : Outcome → Scanned
-scan_of (accepted b) = scanned.Accepted b.header (places_of b.header)
-scan_of (refused number place) = scanned.Refused number place
+-- the numbers of the refusals, by the names that the code has for them: 1 to 11 of document 01, 12 and 13 of document 02
+abbrev pub reason_number : Reason → ℕ
+reason_number reason.BookLong = 1
+reason_number reason.BookShort = 2
+reason_number reason.HeaderBad = 3
+reason_number reason.PastEnd = 4
+reason_number reason.SpareBit = 5
+reason_number reason.NotRising = 6
+reason_number reason.TreeKey = 7
+reason_number reason.BytesLeft = 8
+reason_number reason.WorkShort = 9
+reason_number reason.FindingsExceed = 10
+reason_number reason.NoRoot = 11
+reason_number reason.DrawnTable = 12
+reason_number reason.ParentsMany = 13

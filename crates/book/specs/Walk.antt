@@ -1,6 +1,6 @@
 -- What the functions over a book ask of it: a table has a form that can be read, the keys lie within the book, and the tables rise.
-use Rattle.std.specs.Prelude.{ℕ, zero, suc, ◌+◌, ◌*◌, ◌%◌, ◌≤◌, ◌<◌, ◌≡◌, true, List, length}
-use Rattle.std.proofs.Math.Option.{Option, none, some}
+use Rattle.std.specs.Prelude.{ℕ, zero, suc, ◌+◌, ◌*◌, ◌%◌, ◌≤◌, ◌<◌, ◌≡◌, true, List, length, Ok}
+use Rattle.std.specs.Coded.{×_prop, Unit-prop, le_prop}
 use Rattle.book.specs.declared.Header.{Header}
 use Rattle.book.specs.declared.Places.{Places}
 use Rattle.book.specs.declared.Table.{Table}
@@ -8,17 +8,12 @@ use Rattle.book.specs.declared.Entry.{Entry}
 use Rattle.book.specs.declared.AllocEntry.{AllocEntry}
 use Rattle.book.specs.declared.KeyHead.{KeyHead}
 use Rattle.book.specs.declared.KeyFront.{KeyFront}
-use Rattle.book.specs.declared.MaybeU8.{MaybeU8}
-use Rattle.book.specs.declared.MaybeU8.TheVariants as u8
-use Rattle.book.specs.declared.MaybeU32.{MaybeU32}
-use Rattle.book.specs.declared.MaybeU32.TheVariants as u32
-use Rattle.book.specs.declared.Verdict.TheVariants as verdict
 use Rattle.book.specs.Book.{header_of, places_of, entry_at, data_type_of, key_end}
 use Rattle.book.specs.Refusals.{book_verdict}
 
 -- s is accepted, and these are its header and its places: what `scan` found, and every rule goes by
 pub record Opened (s : List ℕ) (h : Header) (at : Places) : Type 0 where
-  pub accepted : book_verdict s ≡ verdict.Passed
+  pub accepted : book_verdict s ≡ Ok tt
   pub header : h ≡ header_of s
   pub places : at ≡ places_of (header_of s)
 
@@ -26,6 +21,12 @@ pub record Opened (s : List ℕ) (h : Header) (at : Places) : Type 0 where
 unfoldable pub KeysFit : List ℕ → ℕ → ℕ → Type 0
 KeysFit s zero p = Unit {0}
 KeysFit s (suc n) p = (key_end s p ≤ length s) × KeysFit s n (key_end s p)
+
+-- that has one proof at most
+pub keys_fit_prop : (s : List ℕ) (n p : ℕ) → IsProp (KeysFit s n p)
+unfolding KeysFit
+keys_fit_prop s zero p = Unit-prop
+keys_fit_prop s (suc n) p = ×_prop le_prop (keys_fit_prop s n (key_end s p))
 
 -- a table whose first field is a word of 32 or 64 bits, and that only as an alloc table has types: each of the four is
 pub record Readable (t : Table) : Type 0 where
@@ -49,15 +50,6 @@ pub record Rising (t : Table) (s : List ℕ) (start n : ℕ) : Type 0 where
 abbrev pub front_of : KeyHead → KeyFront
 front_of h = record { btree = h.btree; key_type = h.key_type; len = h.len; spare = h.spare }
 
--- Rust's Option<u8> and Option<u32>, as the enums that stand in for them
-unfoldable pub maybe_u8 : Option ℕ → MaybeU8
-maybe_u8 none = u8.Absent
-maybe_u8 (some x) = u8.Is x
-
-unfoldable pub maybe_u32 : Option ℕ → MaybeU32
-maybe_u32 none = u32.Absent
-maybe_u32 (some x) = u32.Is x
-
 -- an alloc entry, as the pair that it is in the book's map
 abbrev pub alloc_entry_of : Entry → AllocEntry
-alloc_entry_of e = record { bucket = e.first; data_type = maybe_u8 (data_type_of e.rest) }
+alloc_entry_of e = record { bucket = e.first; data_type = data_type_of e.rest }

@@ -8,6 +8,8 @@ ghost use Rattle.book.specs.Walk.{front_of};
 use bits::Cursor;
 
 pub mod names;
+pub mod open;
+pub mod refusal;
 
 // The first 32 bytes, field by field. The mark `trees` says that the snapshot_trees btree is present, the mark `drawn` that the parents are
 // those of the snapshot keys.
@@ -80,37 +82,7 @@ pub struct KeyFront {
 #[derive(Clone, Copy)]
 pub struct AllocEntry {
     pub bucket: u64,
-    pub data_type: MaybeU8,
-}
-
-// Rust's Option<u8>.
-#[derive(Clone, Copy)]
-pub enum MaybeU8 {
-    Is(u8),
-    Absent,
-}
-
-// Rust's Option<u32>.
-#[derive(Clone, Copy)]
-pub enum MaybeU32 {
-    Is(u32),
-    Absent,
-}
-
-// What a check of a book, or of a part of it, gives.
-#[derive(Clone, Copy)]
-pub enum Verdict {
-    Passed,
-    // the refusal's number and its place
-    Refused(usize, usize),
-}
-
-// What bytes are as a book.
-#[derive(Clone, Copy)]
-pub enum Scanned {
-    Accepted { header: Header, places: Places },
-    // the refusal's number and its place
-    Refused(usize, usize),
+    pub data_type: Option<u8>,
 }
 
 // The front of the key at byte `at`.

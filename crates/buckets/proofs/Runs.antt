@@ -1,10 +1,10 @@
 -- What the code computes of a run is what the rule says of it.
+use Rattle.std.specs.Prelude.{None, Option, Some}
 use Prim.Native.Nat.{ℕ, zero, suc, ◌+◌, ◌-◌, ◌*◌, ◌/◌, ◌%◌, ◌^◌, ◌≤◌, ◌<◌, max}
 use mathlib.Core.Path.{◌≡◌, refl, sym, ap, ap₂, ◌∙◌, subst}
 use mathlib.Core.Bool.{Bool, true, false, true≢false, cond, ◌||◌, or-true}
 use mathlib.Core.Logic.{⊎_elim}
 use mathlib.Core.List.{List, [], ◌∷◌, ◌++◌}
-use mathlib.Core.Option.{Option, none, some}
 use native.Mathlib.Nat.{le_of_suc-le-suc}
 use native.Mathlib.Numerals.{add-one}
 use native.Mathlib.Omega.{arith}
@@ -20,7 +20,7 @@ use Rattle.book.specs.declared.KeyHead.{KeyHead}
 use Rattle.book.specs.declared.AllocEntry.{AllocEntry}
 use Rattle.book.specs.declared.Entry.{Entry}
 use Rattle.book.specs.Book.{Bkey, Book, data_type_of, alloc_table, alloc_from, entry_at, key_head, key_end, bkey, key_of, keys_from, book_of}
-use Rattle.book.specs.Walk.{maybe_u8, alloc_entry_of}
+use Rattle.book.specs.Walk.{alloc_entry_of}
 use Rattle.walk.specs.Keys.{key_at, gather}
 use Rattle.book.proofs.Tables.{entries_step, entries_none}
 use Rattle.buckets.specs.declared.Used.{Used}
@@ -48,11 +48,11 @@ module _ (h : Header) (k : Bkey) where
 pub run_size : (h : Header) (k : Bkey) → no_run h k ≡ false → k.size ≤ run_end k
 unfolding no_run
 run_size h k e =
-    let none : no_run h k ≡ true → k.size ≤ run_end k = λ t. absurd (true≢false (sym t ∙ e)) in
+    let None : no_run h k ≡ true → k.size ≤ run_end k = λ t. absurd (true≢false (sym t ∙ e)) in
     let one = ltb-false (run_end k) k.size in
     by_tests h k
-    (λ x y z. none (simp (or-true, x, y, z))) (λ x y z. none (simp (or-true, x, y, z)))
-    (λ x y z. none (simp (or-true, x, y, z))) (λ x y z. none (simp (or-true, x, y, z)))
+    (λ x y z. None (simp (or-true, x, y, z))) (λ x y z. None (simp (or-true, x, y, z)))
+    (λ x y z. None (simp (or-true, x, y, z))) (λ x y z. None (simp (or-true, x, y, z)))
     (λ x y z. one x) (λ x y z. one x) (λ x y z. one x) (λ x y z. one x)
 
 pub held_none : (h : Header) (k : Bkey) → no_run h k ≡ true → held_run h k ≡ []
@@ -72,23 +72,23 @@ held_any : (h : Header) (k : KeyHead) (v w : List ℕ) → held_run h (bkey k v)
 unfolding held_run no_run
 held_any h k v w = refl
 
-module _ (s : List ℕ) {h : Header} (header : (book_of s).header ≡ h) (k : KeyHead) where
-  no_run_is : no_run (book_of s).header (key_of s k) ≡ no_run h (bkey k [])
+module _ (s : List ℕ) {h : Header} (header : (book_of s).header ≡ h) {k : KeyHead} (t : List ℕ) (p : ℕ) (head : k ≡ key_head t p) where
+  no_run_is : no_run (book_of s).header (key_of t k) ≡ no_run h (bkey k [])
   no_run_is = rw header (no_run_any h k _ [])
 
-  pub run_none : {e : ℕ} → e ≡ run_end (bkey k []) → no_run h (bkey k []) ≡ true → finding 47 e k.size ∷ [] ≡ run_findings (book_of s) (key_of s k)
+  pub run_none : {e : ℕ} → e ≡ run_end (bkey k []) → no_run h (bkey k []) ≡ true → finding 47 e k.size ∷ [] ≡ run_findings (book_of s) (key_at t p)
   unfolding run_findings
-  run_none e not = rw (no_run_is ∙ not, e)
+  run_none e not = rw (← head, no_run_is ∙ not, e)
 
   pub run_set : {e : ℕ} → e ≡ run_end (bkey k []) → no_run h (bkey k []) ≡ false
-      → set_findings h.first_bucket (e - k.size) (used_buckets (alloc_range (e - k.size) e (book_of s).alloc)) ≡ run_findings (book_of s) (key_of s k)
+      → set_findings h.first_bucket (e - k.size) (used_buckets (alloc_range (e - k.size) e (book_of s).alloc)) ≡ run_findings (book_of s) (key_at t p)
   unfolding run_findings
-  run_set e is = rw (no_run_is ∙ is, header, e)
+  run_set e is = rw (← head, no_run_is ∙ is, header, e)
 
   -- the pair that it gives
-  pub run_pair_lem : (p : ℕ) → k ≡ key_head s p → is_run (key_at s p) ≡ true → held_run h (bkey k []) ≡ run_pair (book_of s) p (key_at s p)
+  pub run_pair_lem : is_run (key_at t p) ≡ true → held_run h (bkey k []) ≡ run_pair (book_of s) p (key_at t p)
   unfolding run_pair
-  run_pair_lem p head e = rw (e, header) (held_any h k [] _ ∙ ap (λ (x : KeyHead). held_run h (key_of s x)) head)
+  run_pair_lem e = rw (e, header) (held_any h k [] _ ∙ ap (λ (x : KeyHead). held_run h (key_of t x)) head)
 
 pub no_pair : (b : Book) (p : ℕ) (k : Bkey) → is_run k ≡ false → run_pair b p k ≡ []
 unfolding run_pair
@@ -134,15 +134,15 @@ fair_sorted s header n p e =
 
 -- ---- the buckets in use of a run
 
-in_use_is : (o : Option ℕ) → in_use_of (maybe_u8 o) ≡ in_use o
-unfolding in_use_of in_use maybe_u8
-in_use_is none = refl
-in_use_is (some t) = refl
+in_use_is : (o : Option ℕ) → in_use_of o ≡ in_use o
+unfolding in_use_of in_use
+in_use_is None = refl
+in_use_is (Some t) = refl
 
-pub free_is : (o : Option ℕ) → is_free_of (maybe_u8 o) ≡ is_free o
-unfolding is_free_of is_free maybe_u8
-free_is none = refl
-free_is (some t) = refl
+pub free_is : (o : Option ℕ) → is_free_of o ≡ is_free o
+unfolding is_free_of is_free
+free_is None = refl
+free_is (Some t) = refl
 
 abbrev used : ℕ → ℕ → Used
 used count first = record { count = count; first = first }

@@ -1,6 +1,5 @@
 -- The rule `free_space` (document 01, kinds 47 to 50).
-use Rattle.std.specs.Prelude.{ℕ, suc, ◌+◌, ◌-◌, ◌/◌, ◌%◌, ◌^◌, max, Bool, false, cond, not, ◌&&◌, ◌||◌, List, [], ◌∷◌, ◌++◌, length, eqb, ltb, leb}
-use Rattle.std.proofs.Math.Option.{Option, none, some}
+use Rattle.std.specs.Prelude.{ℕ, suc, ◌+◌, ◌-◌, ◌/◌, ◌%◌, ◌^◌, max, Bool, false, cond, not, ◌&&◌, ◌||◌, List, [], ◌∷◌, ◌++◌, length, eqb, ltb, leb, None, Option, Some}
 use Rattle.findings.specs.Findings.{Finding, finding, when, only, each}
 use Rattle.pairs.specs.Pairs.{pair, sort}
 use Rattle.book.specs.declared.Header.{Header}
@@ -30,13 +29,13 @@ no_run h k = ltb (run_end k) k.size || (not (eqb k.inode h.device) || ltb h.buck
 
 -- a data type that is there and not 0: the bucket is in use
 unfoldable pub in_use : Option ℕ → Bool
-in_use none = false
-in_use (some t) = not (eqb t 0)
+in_use None = false
+in_use (Some t) = not (eqb t 0)
 
 -- a data type that is there and 0: the bucket is free
 unfoldable pub is_free : Option ℕ → Bool
-is_free none = false
-is_free (some t) = eqb t 0
+is_free None = false
+is_free (Some t) = eqb t 0
 
 -- the alloc entries of the buckets from a up to, not including, e
 unfoldable pub alloc_range : ℕ → ℕ → List (ℕ × Option ℕ) → List (ℕ × Option ℕ)

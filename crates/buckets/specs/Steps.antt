@@ -1,10 +1,8 @@
 -- What only contracts of private functions cite.
-use Rattle.std.specs.Prelude.{ℕ, ◌+◌, ◌-◌, ◌*◌, ◌/◌, ◌%◌, ◌^◌, ◌≤◌, ◌<◌, min, max, ◌≡◌, Bool, false, cond, not, List, [], ◌∷◌, ◌++◌, length, get_or, eqb, ltb}
-use Rattle.std.proofs.Math.Option.{Option}
+use Rattle.std.specs.Prelude.{ℕ, ◌+◌, ◌-◌, ◌*◌, ◌/◌, ◌%◌, ◌^◌, ◌≤◌, ◌<◌, min, max, ◌≡◌, Bool, false, cond, not, List, [], ◌∷◌, ◌++◌, length, get_or, eqb, ltb, None, Option, Some}
+use Rattle.std.specs.Coded.{Π_prop, ×_prop, Coded-set, coded_ℕ}
 use Rattle.findings.specs.Findings.{Finding, finding, when, only, each}
 use Rattle.book.specs.declared.AllocEntry.{AllocEntry}
-use Rattle.book.specs.declared.MaybeU8.{MaybeU8}
-use Rattle.book.specs.declared.MaybeU8.TheVariants.{Is, Absent}
 use Rattle.book.specs.Maps.{lower_bound}
 use Rattle.book.specs.Book.{Bkey, Book, alloc_from}
 use Rattle.buckets.specs.declared.Range.{Range}
@@ -20,13 +18,13 @@ unfoldable pub range_of : ℕ → List (ℕ × Option ℕ) → ℕ → ℕ → R
 range_of p alloc a e = record { start = p + lower_bound a alloc * 10; low = lower_bound a alloc; count = lower_bound e alloc - lower_bound a alloc }
 
 -- `in_use` and `is_free` by the enum
-unfoldable pub in_use_of : MaybeU8 → Bool
-in_use_of (Is t) = not (eqb t 0)
-in_use_of Absent = false
+unfoldable pub in_use_of : Option ℕ → Bool
+in_use_of (Some t) = not (eqb t 0)
+in_use_of None = false
 
-unfoldable pub is_free_of : MaybeU8 → Bool
-is_free_of (Is t) = eqb t 0
-is_free_of Absent = false
+unfoldable pub is_free_of : Option ℕ → Bool
+is_free_of (Some t) = eqb t 0
+is_free_of None = false
 
 -- the buckets in use of alloc entries: their number, and the first of them, or d
 unfoldable pub used_of : ℕ → List (ℕ × Option ℕ) → Used
@@ -45,6 +43,10 @@ unfoldable pub Marked : List ℕ → ℕ → ℕ → List ℕ → Type 0
 Marked s p count m =
     (k : ℕ) → 2 * k + 2 ≤ length m
     → (get_or m (2 * k) 0 ≡ (used_from s p count (min (k * 256) count)).count) × (get_or m (2 * k + 1) 0 ≡ (used_from s p count (min (k * 256) count)).first)
+
+pub marked_prop : (s : List ℕ) (p count : ℕ) (m : List ℕ) → IsProp (Marked s p count m)
+unfolding Marked
+marked_prop s p count m = Π_prop (λ k. Π_prop (λ _. ×_prop (Coded-set coded_ℕ _ _) (Coded-set coded_ℕ _ _)))
 
 -- every bucket is below e
 unfoldable pub Below : ℕ → List (ℕ × Option ℕ) → Type 0

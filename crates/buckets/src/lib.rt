@@ -1,19 +1,15 @@
 // The rule on free buckets: `free_space` (kinds 47 to 50).
 #![tactic(auto)]
 
-ghost use Rattle.std.specs.Prelude.{◌≡◌, cond, [], ◌++◌, ◌+◌, ◌-◌, ◌*◌, ◌^◌, ◌<◌, ◌≤◌, max, length, set};
-ghost use Rattle.findings.specs.Findings.{sink, Found, Added, only, each};
+ghost use Rattle.std.specs.Prelude.{◌≡◌, cond, [], ◌++◌, ◌+◌, ◌-◌, ◌*◌, ◌^◌, ◌<◌, ◌≤◌, length, set};
+ghost use Rattle.findings.specs.Findings.{only, each};
+ghost use Rattle.findings.specs.Reports.{Reports};
 ghost use Rattle.pairs.specs.Pairs.{pairs_of};
 ghost use Rattle.book.specs.Maps.{lower_bound};
-ghost use Rattle.book.specs.Book.{
-  alloc_table,
-  alloc_from,
-  bkey,
-  key_of,
-  book_of,
-};
-ghost use Rattle.book.specs.Walk.{Opened, Rising};
-ghost use Rattle.walk.specs.Keys.{key_at, AtKey, gather};
+ghost use Rattle.book.specs.Book.{alloc_table, alloc_from, bkey, book_of};
+ghost use Rattle.book.specs.Walk.{Rising};
+ghost use Rattle.book.specs.Turns.{held};
+ghost use Rattle.walk.specs.Keys.{gather};
 ghost use Rattle.buckets.specs.FreeSpace.{
   is_run,
   run_end,
@@ -43,29 +39,21 @@ ghost use Rattle.buckets.specs.Steps.{
   Fair,
 };
 
-use book::{AllocEntry, Header, KeyFront, KeyHead, MaybeU8, Places};
-use findings::{emit, emit_if, start_of};
+use book::names::{btree_id, key_type};
+use book::open::{Book, Key};
+use book::{AllocEntry, Header, KeyHead};
+use findings::kind::Kind;
+use findings::report::Report;
+use marked::Runs;
+use pairs::SortedPairs;
 
-// A number of findings, a number of pairs, and a place in a table from where the next search starts: of it only its bound is promised.
+mod marked;
+
+// A number of pairs, and a place in the alloc table from where the next search starts: of it only its bound is promised.
 #[derive(Clone, Copy)]
-struct Counts {
-    found: usize,
+struct Taken {
     put: usize,
     near: usize,
-}
-
-// A number of findings, and such a place.
-#[derive(Clone, Copy)]
-struct Shown {
-    found: usize,
-    near: usize,
-}
-
-// The greater of two numbers.
-fn most(a: u64, b: u64) -> u64
-    ensures { result ≡ max a b }
-{
-    if a < b { b } else { a }
 }
 
 // The first of two numbers if the test holds, else the second.
@@ -103,7 +91,7 @@ fn put_run(h: Header, k: KeyHead, work: &mut [u64], n: usize) -> usize
         return n;
     }
     let end = run_end(k);
-    let start = most(end - (k.size as u64), h.first_bucket as u64);
+    let start = (end - (k.size as u64)).max(h.first_bucket as u64);
     pairs::put_pair(work, n, start, end);
     n + 1
 }
@@ -146,22 +134,22 @@ fn alloc_range(book: &[u8], start: usize, count: usize, near: usize, from: u64, 
 }
 
 // Whether a data type says that its bucket is in use.
-fn in_use(t: MaybeU8) -> bool
+fn in_use(t: Option<u8>) -> bool
     ensures { result ≡ in_use_of t }
 {
     match t {
-        MaybeU8::Is(x) => x != 0,
-        MaybeU8::Absent => false,
+        Some(x) => x != 0,
+        None => false,
     }
 }
 
 // Whether a data type says that its bucket is free.
-fn is_free(t: MaybeU8) -> bool
+fn is_free(t: Option<u8>) -> bool
     ensures { result ≡ is_free_of t }
 {
     match t {
-        MaybeU8::Is(x) => x == 0,
-        MaybeU8::Absent => false,
+        Some(x) => x == 0,
+        None => false,
     }
 }
 
@@ -198,10 +186,8 @@ fn used_among(book: &[u8], start: usize, count: usize, none: u64) -> Used
         count: 0,
         first: none,
     };
-    let mut left = count;
-    while 0 < left {
-        left -= 1;
-        let e = tables::alloc_entry(book, start + left * 10);
+    for i in (0..count).rev() {
+        let e = tables::alloc_entry(book, start + i * 10);
         u = with_entry(e, u);
     }
     u
@@ -213,10 +199,8 @@ fn used_down(book: &[u8], start: usize, count: usize, from: usize, to: usize, u:
     ensures { result ≡ used_from book.now start count from }
 {
     let mut used = u;
-    let mut left = to;
-    while from < left {
-        left -= 1;
-        let e = tables::alloc_entry(book, start + left * 10);
+    for i in (from..to).rev() {
+        let e = tables::alloc_entry(book, start + i * 10);
         used = with_entry(e, used);
     }
     used
@@ -238,11 +222,9 @@ fn put_marks(book: &[u8], start: usize, count: usize, marks: &mut [u64])
     ensures { Marked book.now start count marks.new }
 {
     let mut u = Used { count: 0, first: 0 };
-    let mut k: usize = 257;
-    while 0 < k {
-        let to = bits::least(k * 256, count);
-        k -= 1;
-        let from = bits::least(k * 256, count);
+    for k in (0..257usize).rev() {
+        let from = (k * 256).min(count);
+        let to = ((k + 1) * 256).min(count);
         u = used_down(book, start, count, from, to, u);
         put_mark(marks, k, u);
     }
@@ -259,7 +241,7 @@ fn used_from(book: &[u8], start: usize, count: usize, marks: &[u64], i: usize) -
         count: marks[at],
         first: marks[at + 1],
     };
-    used_down(book, start, count, i, bits::least(k * 256, count), u)
+    used_down(book, start, count, i, (k * 256).min(count), u)
 }
 
 // Those of n entries from number `low` on, where the first is `none` if there is none: by the marks, where that is less than to read them.
@@ -289,181 +271,142 @@ fn used_in(
     }
 }
 
-// What the buckets of a run from `start` up to `end` give, after n findings.
-fn show_set(
-    book: &[u8],
-    h: Header,
-    at: Places,
-    marks: &[u64],
-    start: u64,
-    end: u64,
-    out: &mut [u8],
-    counts: &mut [u64],
-    n: usize,
-    near: usize,
-) -> Shown
-    requires { Opened book.now h at × Marked book.now at.alloc h.alloc marks.now × (start ≤ end) × (n < 2 ^ 62) × (near ≤ h.alloc) }
-    ensures added { Added (sink out.old counts.old) n (set_findings h.first_bucket start (used_buckets (alloc_range start end (book_of book.now).alloc))) result.found (sink out.new counts.new) }
-    ensures few { (result.found ≤ n + 1) × (result.near ≤ h.alloc) }
+// What the buckets of a run from `start` up to `end` give; returns where the next search starts.
+fn show_set(runs: Runs<'_, '_>, start: u64, end: u64, near: usize, report: &mut Report<'_>) -> usize
+    requires { (start ≤ end) × (report.old.found < 2 ^ 62) × (near ≤ runs.book.header.alloc) }
+    ensures reports { Reports report.old (set_findings runs.entry.book.header.first_bucket start (used_buckets (alloc_range start end (book_of runs.entry.book.bytes.now).alloc))) report.new }
+    ensures few { (report.new.found ≤ report.old.found + 1) × (result ≤ runs.entry.book.header.alloc) }
 {
-    let count = h.alloc as usize;
-    let range = alloc_range(book, at.alloc, count, near, start, end);
-    let used = used_in(book, at.alloc, count, marks, range.low, range.count, start);
-    let early = start < (h.first_bucket as u64);
+    let book = runs.book;
+    let count = book.header.alloc as usize;
+    let range = alloc_range(book.bytes, book.places.alloc, count, near, start, end);
+    let used = used_in(
+        book.bytes,
+        book.places.alloc,
+        count,
+        runs.marks,
+        range.low,
+        range.count,
+        start,
+    );
+    let early = start < (book.header.first_bucket as u64);
     let named = choose(early, start, used.first);
     let more = choose(early, 1, 0);
-    let found = emit_if(
-        out,
-        counts,
-        n,
+    report.emit_if(
         early | (0 < used.count),
-        48,
+        Kind::BucketIncorrectlySetInFreespaceBtree,
         named,
         used.count + more,
     );
-    Shown {
-        found,
-        near: range.low,
-    }
+    range.low
 }
 
-// What the run with the head k gives, after n findings.
-fn show_run(
-    book: &[u8],
-    h: Header,
-    at: Places,
-    marks: &[u64],
-    k: KeyHead,
-    out: &mut [u8],
-    counts: &mut [u64],
-    n: usize,
-    near: usize,
-) -> Shown
-    requires { Opened book.now h at × Marked book.now at.alloc h.alloc marks.now × (n < 2 ^ 62) × (near ≤ h.alloc) }
-    ensures added { Added (sink out.old counts.old) n (run_findings (book_of book.now) (key_of book.now k)) result.found (sink out.new counts.new) }
-    ensures few { (result.found ≤ n + 1) × (result.near ≤ h.alloc) }
+// What a run gives; returns where the next search starts.
+fn show_run(runs: &Runs<'_, '_>, key: Key<'_>, near: usize, report: &mut Report<'_>) -> usize
+    requires { (report.old.found < 2 ^ 62) × (near ≤ runs.now.book.header.alloc) }
+    ensures reports { Reports report.old (run_findings (book_of runs.now.book.bytes.now) (held key.entry)) report.new }
+    ensures few { (report.new.found ≤ report.old.found + 1) × (result ≤ runs.now.book.header.alloc) }
 {
-    let end = run_end(k);
-    let size = k.size as u64;
-    if no_run(h, k) {
-        let found = emit(out, counts, n, 47, end, size);
-        return Shown { found, near };
+    let head = key.head();
+    let end = run_end(head);
+    let size = head.size as u64;
+    if no_run(runs.book.header, head) {
+        report.emit(Kind::FreespaceEntryForNonexistentBucket, end, size);
+        return near;
     }
-    show_set(book, h, at, marks, end - size, end, out, counts, n, near)
+    show_set(*runs, end - size, end, near, report)
 }
 
-// What the key at byte p with the front f gives, if it is a run: its findings after those counted, and its pair behind those counted.
+// What a key gives, if it is a run, and its pair behind those counted.
 fn take_run(
-    book: &[u8],
-    h: Header,
-    at: Places,
-    marks: &[u64],
-    p: usize,
-    f: KeyFront,
-    out: &mut [u8],
-    counts: &mut [u64],
+    runs: &Runs<'_, '_>,
+    key: Key<'_>,
+    t: Taken,
+    report: &mut Report<'_>,
     work: &mut [u64],
-    c: Counts,
-) -> Counts
-    requires { Opened book.now h at × Marked book.now at.alloc h.alloc marks.now × AtKey book.now p f × (c.found < 2 ^ 62) × (2 * c.put + 2 ≤ length work.old) × (c.near ≤ h.alloc) }
-    ensures added { Added (sink out.old counts.old) c.found (only (is_run (key_at book.now p)) (run_findings (book_of book.now) (key_at book.now p))) result.found (sink out.new counts.new) }
-    ensures put { pairs_of work.new result.put ≡ pairs_of work.old c.put ++ run_pair (book_of book.now) p (key_at book.now p) }
-    ensures few { (result.found ≤ c.found + 1) × (result.put ≤ c.put + 1) × (result.near ≤ h.alloc) }
+) -> Taken
+    requires { (report.old.found < 2 ^ 62) × (2 * t.put + 2 ≤ length work.old) × (t.near ≤ runs.now.book.header.alloc) }
+    ensures reports { Reports report.old (only (is_run (held key.entry)) (run_findings (book_of runs.now.book.bytes.now) (held key.entry))) report.new }
+    ensures put { pairs_of work.new result.put ≡ pairs_of work.old t.put ++ run_pair (book_of runs.now.book.bytes.now) key.entry.at (held key.entry) }
+    ensures few { (report.new.found ≤ report.old.found + 1) × (result.put ≤ t.put + 1) × (result.near ≤ runs.now.book.header.alloc) }
 {
-    if (f.btree == 11) & (f.key_type == 25) {
-        let k = book::key_head(book, p);
-        let shown = show_run(book, h, at, marks, k, out, counts, c.found, c.near);
-        let put = put_run(h, k, work, c.put);
-        return Counts {
-            found: shown.found,
-            put,
-            near: shown.near,
-        };
+    if !key.is(btree_id::FREESPACE, key_type::SET) {
+        return t;
     }
-    c
+    let near = show_run(runs, key, t.near, report);
+    let put = put_run(runs.book.header, key.head(), work, t.put);
+    Taken { put, near }
 }
 
-// What the runs give, and a pair for each of the device, those of size 0 too.
-fn take_runs(
-    book: &[u8],
-    h: Header,
-    at: Places,
-    marks: &[u64],
-    out: &mut [u8],
-    counts: &mut [u64],
-    work: &mut [u64],
-) -> Counts
-    requires { Opened book.now h at × Marked book.now at.alloc h.alloc marks.now × (2 * h.keys ≤ length work.old) }
-    ensures found { Found (sink out.old counts.old) (each (λ _ k. only (is_run k) (run_findings (book_of book.now) k)) 0 (book_of book.now).keys) result.found (sink out.new counts.new) }
-    ensures put { pairs_of work.new result.put ≡ gather (run_pair (book_of book.now)) book.now h.keys at.keys }
-    ensures few { (result.found ≤ h.keys) × (result.put ≤ h.keys) }
+// What the runs give, and a pair for each of the device, those of size 0 too; returns the number of pairs.
+fn take_runs(runs: &Runs<'_, '_>, report: &mut Report<'_>, work: &mut [u64]) -> usize
+    requires { (report.old.found < 2 ^ 61) × (2 * runs.now.book.header.keys ≤ length work.old) }
+    ensures reports { Reports report.old (each (λ _ k. only (is_run k) (run_findings (book_of runs.now.book.bytes.now) k)) 0 (book_of runs.now.book.bytes.now).keys) report.new }
+    ensures put { pairs_of work.new result ≡ gather (run_pair (book_of runs.now.book.bytes.now)) runs.now.book.bytes.now runs.now.book.header.keys runs.now.book.places.keys }
+    ensures few { (report.new.found ≤ report.old.found + runs.now.book.header.keys) × (result ≤ runs.now.book.header.keys) }
 {
-    let mut c = Counts {
-        found: 0,
-        put: 0,
-        near: 0,
-    };
-    let mut left = h.keys;
-    let mut p = at.keys;
-    while 0 < left {
-        let f = book::key_front(book, p);
-        c = take_run(book, h, at, marks, p, f, out, counts, work, c);
-        p = p + 28 + f.len;
-        left -= 1;
+    let mut t = Taken { put: 0, near: 0 };
+    for key in runs.book.keys() {
+        t = take_run(runs, key, t, report, work);
     }
-    c
+    t.put
 }
 
 // The same, by marks of the alloc entries.
-fn marked_runs(
-    book: &[u8],
-    h: Header,
-    at: Places,
-    out: &mut [u8],
-    counts: &mut [u64],
-    work: &mut [u64],
-) -> Counts
-    requires { Opened book.now h at × (2 * h.keys ≤ length work.old) }
-    ensures found { Found (sink out.old counts.old) (each (λ _ k. only (is_run k) (run_findings (book_of book.now) k)) 0 (book_of book.now).keys) result.found (sink out.new counts.new) }
-    ensures put { pairs_of work.new result.put ≡ gather (run_pair (book_of book.now)) book.now h.keys at.keys }
-    ensures few { (result.found ≤ h.keys) × (result.put ≤ h.keys) }
+fn marked_runs(book: Book<'_>, report: &mut Report<'_>, work: &mut [u64]) -> usize
+    requires { (report.old.found < 2 ^ 61) × (2 * book.header.keys ≤ length work.old) }
+    ensures reports { Reports report.old (each (λ _ k. only (is_run k) (run_findings (book_of book.entry.bytes.now) k)) 0 (book_of book.entry.bytes.now).keys) report.new }
+    ensures put { pairs_of work.new result ≡ gather (run_pair (book_of book.entry.bytes.now)) book.entry.bytes.now book.entry.header.keys book.entry.places.keys }
+    ensures few { (report.new.found ≤ report.old.found + book.entry.header.keys) × (result ≤ book.entry.header.keys) }
 {
     let mut marks = [0; 514];
-    put_marks(book, at.alloc, h.alloc as usize, &mut marks);
-    take_runs(book, h, at, &marks, out, counts, work)
+    put_marks(
+        book.bytes,
+        book.places.alloc,
+        book.header.alloc as usize,
+        &mut marks,
+    );
+    let runs = Runs {
+        book,
+        marks: &marks,
+    };
+    take_runs(&runs, report, work)
 }
 
 // The same, by marks where there are enough alloc entries for them.
-fn all_runs(
-    book: &[u8],
-    h: Header,
-    at: Places,
-    out: &mut [u8],
-    counts: &mut [u64],
-    work: &mut [u64],
-) -> Counts
-    requires { Opened book.now h at × (2 * h.keys ≤ length work.old) }
-    ensures found { Found (sink out.old counts.old) (each (λ _ k. only (is_run k) (run_findings (book_of book.now) k)) 0 (book_of book.now).keys) result.found (sink out.new counts.new) }
-    ensures put { pairs_of work.new result.put ≡ gather (run_pair (book_of book.now)) book.now h.keys at.keys }
-    ensures few { (result.found ≤ h.keys) × (result.put ≤ h.keys) }
+fn all_runs(book: Book<'_>, report: &mut Report<'_>, work: &mut [u64]) -> usize
+    requires { (report.old.found < 2 ^ 61) × (2 * book.header.keys ≤ length work.old) }
+    ensures reports { Reports report.old (each (λ _ k. only (is_run k) (run_findings (book_of book.entry.bytes.now) k)) 0 (book_of book.entry.bytes.now).keys) report.new }
+    ensures put { pairs_of work.new result ≡ gather (run_pair (book_of book.entry.bytes.now)) book.entry.bytes.now book.entry.header.keys book.entry.places.keys }
+    ensures few { (report.new.found ≤ report.old.found + book.entry.header.keys) × (result ≤ book.entry.header.keys) }
 {
-    if h.alloc <= 512 {
+    if book.header.alloc <= 512 {
         let none = [0; 1];
-        return take_runs(book, h, at, &none, out, counts, work);
+        let runs = Runs { book, marks: &none };
+        return take_runs(&runs, report, work);
     }
-    marked_runs(book, h, at, out, counts, work)
+    marked_runs(book, report, work)
 }
 
-// What the alloc entry e gives in a gap of which the buckets up to `at` are passed, after n findings.
-fn show_entry(e: AllocEntry, at: u64, out: &mut [u8], counts: &mut [u64], n: usize) -> usize
-    requires { n < 2 ^ 62 }
-    ensures added { Added (sink out.old counts.old) n (entry_findings at e) result (sink out.new counts.new) }
-    ensures few { result ≤ n + 2 }
+// What the alloc entry e gives in a gap of which the buckets up to `at` are passed.
+fn show_entry(e: AllocEntry, at: u64, report: &mut Report<'_>)
+    requires { report.old.found < 2 ^ 62 }
+    ensures reports { Reports report.old (entry_findings at e) report.new }
+    ensures few { report.new.found ≤ report.old.found + 2 }
 {
-    let data_type = e.data_type;
-    let free = is_free(data_type);
-    let m = emit_if(out, counts, n, at < e.bucket, 50, at, e.bucket);
-    emit_if(out, counts, m, free, 49, e.bucket, 0)
+    let free = is_free(e.data_type);
+    report.emit_if(
+        at < e.bucket,
+        Kind::HoleInAllocBtreeMissingInFreespaceBtree,
+        at,
+        e.bucket,
+    );
+    report.emit_if(
+        free,
+        Kind::BucketIncorrectlyUnsetInFreespaceBtree,
+        e.bucket,
+        0,
+    );
 }
 
 // What a gap from `from` up to `to` gives, whose alloc entries are the `count` ones from byte `start` on.
@@ -473,129 +416,73 @@ fn show_entries(
     count: usize,
     from: u64,
     to: u64,
-    out: &mut [u8],
-    counts: &mut [u64],
-) -> usize
-    requires { (length book.now ≤ 1048576) × (start + count * 10 ≤ length book.now) × Below to (alloc_from book.now count start) }
-    ensures found { Found (sink out.old counts.old) (gap_findings from (alloc_from book.now count start) to) result (sink out.new counts.new) }
-    ensures few { result ≤ 1 + 2 * count }
+    report: &mut Report<'_>,
+)
+    requires { (length book.now ≤ 1048576) × (start + count * 10 ≤ length book.now) × Below to (alloc_from book.now count start) × (report.old.found < 2 ^ 61) }
+    ensures reports { Reports report.old (gap_findings from (alloc_from book.now count start) to) report.new }
+    ensures few { report.new.found ≤ report.old.found + 1 + 2 * count }
 {
-    let mut n: usize = 0;
     let mut at = from;
-    let mut left = count;
-    let mut p = start;
-    while 0 < left {
-        let e = tables::alloc_entry(book, p);
-        n = show_entry(e, at, out, counts, n);
+    for i in 0..count {
+        let e = tables::alloc_entry(book, start + i * 10);
+        show_entry(e, at, report);
         at = e.bucket + 1;
-        p += 10;
-        left -= 1;
     }
-    emit_if(out, counts, n, at < to, 50, at, to)
+    report.emit_if(
+        at < to,
+        Kind::HoleInAllocBtreeMissingInFreespaceBtree,
+        at,
+        to,
+    );
 }
 
-// What the buckets from `from` up to `to`, which no run holds, give after n findings.
-fn show_hole(
-    book: &[u8],
-    h: Header,
-    at: Places,
-    near: usize,
-    from: u64,
-    to: u64,
-    out: &mut [u8],
-    counts: &mut [u64],
-    n: usize,
-) -> Shown
-    requires { Opened book.now h at × (n < 2 ^ 62) × (from < to) × (near ≤ h.alloc) }
-    ensures added { Added (sink out.old counts.old) n (gap_of (book_of book.now).alloc from to) result.found (sink out.new counts.new) }
-    ensures few { (result.found ≤ n + 1 + 2 * (lower_bound to (book_of book.now).alloc - lower_bound from (book_of book.now).alloc)) × (result.near ≤ h.alloc) }
+// What the buckets from `from` up to `to`, which no run holds, give; returns where the next search starts.
+fn show_hole(book: &Book<'_>, near: usize, from: u64, to: u64, report: &mut Report<'_>) -> usize
+    requires { (report.old.found < 2 ^ 61) × (from < to) × (near ≤ book.now.header.alloc) }
+    ensures reports { Reports report.old (gap_of (book_of book.now.bytes.now).alloc from to) report.new }
+    ensures few { (report.new.found ≤ report.old.found + 1 + 2 * (lower_bound to (book_of book.now.bytes.now).alloc - lower_bound from (book_of book.now.bytes.now).alloc)) × (result ≤ book.now.header.alloc) }
 {
-    let range = alloc_range(book, at.alloc, h.alloc as usize, near, from, to);
-    let rest = start_of(out.len(), n);
-    let found = n
-        + show_entries(
-            book,
-            range.start,
-            range.count,
-            from,
-            to,
-            &mut out[rest..],
-            counts,
-        );
-    Shown {
-        found,
-        near: range.low,
-    }
+    let count = book.header.alloc as usize;
+    let range = alloc_range(book.bytes, book.places.alloc, count, near, from, to);
+    show_entries(book.bytes, range.start, range.count, from, to, report);
+    range.low
 }
 
 // The same: nothing if there are none, by a test that the compiler puts in place.
-fn show_gap(
-    book: &[u8],
-    h: Header,
-    at: Places,
-    near: usize,
-    from: u64,
-    to: u64,
-    out: &mut [u8],
-    counts: &mut [u64],
-    n: usize,
-) -> Shown
-    requires { Opened book.now h at × (n < 2 ^ 62) × (near ≤ h.alloc) }
-    ensures added { Added (sink out.old counts.old) n (gap_of (book_of book.now).alloc from to) result.found (sink out.new counts.new) }
-    ensures few { (result.found ≤ n + 1 + 2 * (lower_bound to (book_of book.now).alloc - lower_bound from (book_of book.now).alloc)) × (result.near ≤ h.alloc) }
+fn show_gap(book: &Book<'_>, near: usize, from: u64, to: u64, report: &mut Report<'_>) -> usize
+    requires { (report.old.found < 2 ^ 61) × (near ≤ book.now.header.alloc) }
+    ensures reports { Reports report.old (gap_of (book_of book.now.bytes.now).alloc from to) report.new }
+    ensures few { (report.new.found ≤ report.old.found + 1 + 2 * (lower_bound to (book_of book.now.bytes.now).alloc - lower_bound from (book_of book.now.bytes.now).alloc)) × (result ≤ book.now.header.alloc) }
 {
     if from < to {
-        return show_hole(book, h, at, near, from, to, out, counts, n);
+        return show_hole(book, near, from, to, report);
     }
-    Shown { found: n, near }
+    near
 }
 
-// What the gaps between the runs give: the first n pairs, which are sorted.
-fn show_gaps(
-    book: &[u8],
-    h: Header,
-    at: Places,
-    work: &[u64],
-    n: usize,
-    out: &mut [u8],
-    counts: &mut [u64],
-) -> usize
-    requires { Opened book.now h at × (n ≤ h.keys) × (2 * n ≤ length work.now) × Fair h.first_bucket (pairs_of work.now n) }
-    ensures found { Found (sink out.old counts.old) (gaps_findings (book_of book.now).alloc (gaps h.first_bucket (pairs_of work.now n) h.buckets)) result (sink out.new counts.new) }
-    ensures few { result ≤ h.keys + 1 + 2 * h.alloc }
+// What the gaps between the runs give, whose pairs these are.
+fn show_gaps(book: Book<'_>, pairs: SortedPairs<'_>, report: &mut Report<'_>)
+    requires { (pairs.count ≤ book.header.keys) × Fair book.header.first_bucket (pairs_of pairs.words.now pairs.count) × (report.old.found < 2 ^ 60) }
+    ensures reports { Reports report.old (gaps_findings (book_of book.entry.bytes.now).alloc (gaps book.entry.header.first_bucket (pairs_of pairs.entry.words.now pairs.entry.count) book.entry.header.buckets)) report.new }
+    ensures few { report.new.found ≤ report.old.found + book.entry.header.keys + 1 + 2 * book.entry.header.alloc }
 {
-    let mut s = Shown { found: 0, near: 0 };
-    let mut from = h.first_bucket as u64;
-    let mut i: usize = 0;
-    while i < n {
-        let q = 2 * i;
-        let start = work[q];
-        let end = work[q + 1];
-        s = show_gap(book, h, at, s.near, from, start, out, counts, s.found);
-        from = most(from, end);
-        i += 1;
+    let mut near = 0;
+    let mut from = book.header.first_bucket as u64;
+    for i in 0..pairs.count {
+        near = show_gap(&book, near, from, pairs.first(i), report);
+        from = from.max(pairs.second(i));
     }
-    let last = show_gap(book, h, at, s.near, from, h.buckets, out, counts, s.found);
-    last.found
+    show_gap(&book, near, from, book.header.buckets, report);
 }
 
 // The findings of runs of free buckets, then of the gaps between them.
-pub fn free_space(
-    book: &[u8],
-    h: Header,
-    at: Places,
-    out: &mut [u8],
-    counts: &mut [u64],
-    work: &mut [u64],
-) -> usize
-    requires { Opened book.now h at × (2 * h.keys ≤ length work.old) }
-    ensures found { Found (sink out.old counts.old) (free_space (book_of book.now)) result (sink out.new counts.new) }
-    ensures few { result ≤ 2 * h.keys + 1 + 2 * h.alloc }
+pub fn free_space(book: Book<'_>, work: &mut [u64], report: &mut Report<'_>)
+    requires room { 2 * book.header.keys ≤ length work.old }
+    requires found { report.old.found < 2 ^ 58 }
+    ensures reports { Reports report.old (free_space (book_of book.entry.bytes.now)) report.new }
+    ensures few { report.new.found ≤ report.old.found + 2 * book.entry.header.keys + 1 + 2 * book.entry.header.alloc }
 {
-    let runs = all_runs(book, h, at, out, counts, work);
-    let n = runs.found;
-    let m = runs.put;
-    sorting::sort_pairs(work, m);
-    let rest = start_of(out.len(), n);
-    n + show_gaps(book, h, at, work, m, &mut out[rest..], counts)
+    let count = all_runs(book, report, work);
+    sorting::sort_pairs(work, count);
+    show_gaps(book, SortedPairs::new(work, count), report);
 }

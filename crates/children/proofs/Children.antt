@@ -1,10 +1,10 @@
 -- What the code computes of subvolumes and entries is what the rule asks of them.
+use Rattle.std.specs.Prelude.{None, Option, Some}
 use Prim.Native.Nat.{ℕ, zero, suc, ◌+◌, ◌*◌, ◌%◌, ◌^◌, ◌≤◌, ◌<◌, min}
 use mathlib.Core.Path.{◌≡◌, refl, sym, ap, ◌∙◌}
 use mathlib.Core.Bool.{Bool, true, false, true≢false, cond, not, ◌&&◌, ◌||◌, or-true}
 use mathlib.Core.Logic.{⊎_elim}
 use mathlib.Core.List.{List, [], ◌∷◌, ◌++◌}
-use mathlib.Core.Option.{Option, none, some}
 use native.Mathlib.Omega.{arith}
 use lib.ListN.{length, get_or, drop}
 use lib.Dec.{eqb, leb}
@@ -12,22 +12,19 @@ use borrow.Author.Tests.{eq-eqb, ne_eqb, eqb-true, le-leb, lt-leb, leb-false, lt
 use Rattle.bits.specs.Bits.{le_at}
 use Rattle.findings.specs.Findings.{Finding, finding, when, only, keep, each}
 use Rattle.findings.proofs.Walk.{drop_at, drop_past}
-use Rattle.pairs.specs.declared.MaybeU64.TheVariants as u64
 use Rattle.pairs.specs.Pairs.{pair, pairs_of, has}
 use Rattle.pairs.proofs.Order.{tested, both_true, both_false, same_or_not}
 use Rattle.pairs.proofs.Bounds.{has_append, has_sort}
 use Rattle.pairs.proofs.Words.{pair_first, pair_second, second, length_pairs}
 use Rattle.book.specs.declared.Header.{Header}
 use Rattle.book.specs.declared.Places.{Places}
-use Rattle.book.specs.declared.KeyFront.{KeyFront}
-use Rattle.book.specs.declared.MaybeU32.TheVariants as u32
 use Rattle.book.specs.Maps.{lookup}
 use Rattle.book.specs.Book.{Bkey, is, key_end, keys_from, book_of}
-use Rattle.book.specs.Walk.{Opened, maybe_u32}
+use Rattle.book.specs.Walk.{Opened}
 use Rattle.book.proofs.Walk.{parts}
 use Rattle.states.specs.StateDistance.{subvol_deleted}
-use Rattle.walk.specs.Keys.{key_at, AtKey, gather, any_key}
-use Rattle.walk.proofs.Gather.{at_length, at_long, long_enough}
+use Rattle.walk.specs.Keys.{key_at, gather, any_key}
+use Rattle.book.proofs.AtKey.{long_enough}
 use Rattle.walk.proofs.Sets.{has_nil, other_btree}
 use Rattle.book.specs.KeyMaps.{map_of}
 use Rattle.maps.specs.Places.{place_pair, number_in, which_in, last_place, last_places}
@@ -38,29 +35,28 @@ use Rattle.maps.specs.LastKeys.{word_at}
 use Rattle.maps.proofs.Places.{Gives, Held, find_law, each_map, set_law}
 use Rattle.book.specs.Words.{word, holds}
 use Rattle.children.specs.SubvolumeChildren.{is_deleted, has_fs_parent, fs_parents, is_entry, is_entry_of, missing_entry, wrong_entry}
-use Rattle.children.specs.Steps.{child_pair, wrong_word, any_wrong, AtChild}
+use Rattle.children.specs.Steps.{child_pair, wrong_word, any_wrong, AtChild, Known}
+use Rattle.children.specs.declared.Child.{Child}
+use Rattle.children.specs.declared.gathered.Children.{Children}
 
 -- ---- the key at hand
-module _ {s : List ℕ} {p : ℕ} {f : KeyFront} (k : AtKey s p f) where
-  pub parent_short : (eqb f.btree 8 && eqb f.key_type 21) && leb 24 f.len ≡ true → f.len < 44 → true ≡ has_fs_parent (key_at s p)
-  unfolding has_fs_parent holds is_deleted
-  parent_short e h = rw (at_long k 8 21 24 e, lt-leb 44 (length (key_at s p).value) (omega (arith, at_length k)))
+module _ (k : Bkey) where
+  pub parent_short : holds 8 21 24 k ≡ true → length k.value < 44 → true ≡ has_fs_parent k
+  unfolding has_fs_parent is_deleted
+  parent_short e h = rw (e, lt-leb 44 (length k.value) h)
 
-  pub parent_long : (eqb f.btree 8 && eqb f.key_type 21) && leb 24 f.len ≡ true → 44 ≤ f.len → {w : ℕ} → w ≡ le_at (key_at s p).value 40 4
-      → not (eqb w subvol_deleted) ≡ has_fs_parent (key_at s p)
-  unfolding has_fs_parent holds is_deleted
-  parent_long e h w = rw (at_long k 8 21 24 e, le-leb 44 (length (key_at s p).value) (omega (arith, at_length k)), w)
+  pub parent_long : holds 8 21 24 k ≡ true → 44 ≤ length k.value → {w : ℕ} → w ≡ le_at k.value 40 4 → not (eqb w subvol_deleted) ≡ has_fs_parent k
+  unfolding has_fs_parent is_deleted
+  parent_long e h w = rw (e, le-leb 44 (length k.value) h, w)
 
-  pub parent_none : (eqb f.btree 8 && eqb f.key_type 21) && leb 24 f.len ≡ false → false ≡ has_fs_parent (key_at s p)
-  unfolding has_fs_parent holds
-  parent_none e = rw (at_long k 8 21 24 e)
+  pub parent_none : holds 8 21 24 k ≡ false → false ≡ has_fs_parent k
+  unfolding has_fs_parent
+  parent_none e = rw e
 
   -- a subvolume with a parent has the word for it
-  pub parent_word : has_fs_parent (key_at s p) ≡ true → 24 ≤ f.len
+  pub parent_word : has_fs_parent k ≡ true → 24 ≤ length k.value
   unfolding has_fs_parent holds
-  parent_word e =
-      let key = key_at s p in
-      omega (arith, at_length k, long_enough (is 8 21 key) 24 (length key.value) (both_true (is 8 21 key && leb 24 (length key.value)) (not (is_deleted key)) e).0)
+  parent_word e = long_enough (is 8 21 k) 24 (length k.value) (both_true (is 8 21 k && leb 24 (length k.value)) (not (is_deleted k)) e).0
 
 -- ---- the pair that a key gives
 pub child_subvolume : (p : ℕ) (k : Bkey) → has_fs_parent k ≡ true → {o : ℕ} → o ≡ k.offset → pair o p ∷ [] ≡ child_pair p k
@@ -71,7 +67,7 @@ pub child_entry : (p : ℕ) (k : Bkey) → has_fs_parent k ≡ false → is_entr
 unfolding child_pair place_pair
 child_entry p k e l o i = rw (e, l, o, i) (ap (λ (x : ℕ). pair k.offset x ∷ []) (omega arith))
 
-pub child_none : (p : ℕ) (k : Bkey) → has_fs_parent k ≡ false → is_entry k ≡ false → child_pair p k ≡ []
+pub child_none : (p : ℕ) (k : Bkey) → has_fs_parent k ≡ false → is_entry k ≡ false → [] ≡ child_pair p k
 unfolding child_pair
 child_none p k e l = rw (e, l)
 
@@ -137,18 +133,25 @@ module _ (parent child : ℕ) (small : parent < 2 ^ 32) (k : Bkey) where
       (tested (is_entry k))))
       (tested (has_fs_parent k))
 
+-- the finding of a child and the place of its subvolume
+abbrev pub missing : List ℕ → ℕ × ℕ → List Finding
+missing s e = missing_entry (book_of s).keys (e.0, word 20 (key_at s e.1))
+
 -- ---- the whole book: xs are the pairs of its keys, sorted
+pub all_pairs : (c : Children) → AllPairs child_pair c.book.bytes.now c.book.header.keys c.book.places.keys (pairs_of c.pairs.words.now c.pairs.count)
+all_pairs c = let p = parts c.book.opened in record { small = p.small; fit = p.keys_fit; all = c.all }
+
 module _ {s : List ℕ} {h : Header} {at : Places} (o : Opened s h at) {xs : List ℕ} (a : AllPairs child_pair s h.keys at.keys xs) where
   parents_are : fs_parents (book_of s) ≡ map_of has_fs_parent (λ k. k.offset) (word 20) (keys_from s h.keys at.keys)
   unfolding fs_parents
   parents_are = rw (parts o).keys
 
-  pub parent_found : (x : ℕ) {q w : ℕ} → last_place 0 x xs ≡ u64.Is q → w ≡ word 20 (key_at s q) → u32.Is w ≡ maybe_u32 (lookup x (fs_parents (book_of s)))
-  unfolding maybe_u32 word_at
+  pub parent_found : (x : ℕ) {q w : ℕ} → last_place 0 x xs ≡ Some q → w ≡ word 20 (key_at s q) → Some w ≡ (lookup x (fs_parents (book_of s)))
+  unfolding word_at
   parent_found x e w = rw (parents_are, find_law subvolumes a (word 20) x, e, w)
 
-  pub parent_absent : (x : ℕ) → last_place 0 x xs ≡ u64.Absent → u32.Absent ≡ maybe_u32 (lookup x (fs_parents (book_of s)))
-  unfolding maybe_u32 word_at
+  pub parent_absent : (x : ℕ) → last_place 0 x xs ≡ None → None ≡ (lookup x (fs_parents (book_of s)))
+  unfolding word_at
   parent_absent x e = rw (parents_are, find_law subvolumes a (word 20) x, e)
 
   pub entry_there : (parent child : ℕ) {b : Bool} → parent < 2 ^ 32 → b ≡ has (pair child (4294967296 + parent)) xs → b ≡ any_key (is_entry_of parent child) (book_of s).keys
@@ -156,15 +159,15 @@ module _ {s : List ℕ} {h : Header} {at : Places} (o : Opened s h at) {xs : Lis
       e ∙ set_law (pair child (4294967296 + parent)) (is_entry_of parent child) (λ p k l. entry_key parent child small k p l) a
       ∙ ap (any_key (is_entry_of parent child)) (sym (parts o).keys)
 
-  pub missing_all : each (λ _ e. missing_entry (book_of s).keys e) 0 (fs_parents (book_of s)) ≡ each (λ _ e. missing_entry (book_of s).keys (e.0, word 20 (key_at s e.1))) 0 (last_places 0 xs)
+  pub missing_all : each (λ _ e. missing_entry (book_of s).keys e) 0 (fs_parents (book_of s)) ≡ each (λ _ e. missing s e) 0 (last_places 0 xs)
   missing_all = ap (each (λ _ e. missing_entry (book_of s).keys e) 0) parents_are ∙ each_map subvolumes a (word 20) (missing_entry (book_of s).keys)
 
 -- ---- where no pair is wrong, no entry is
-wrong_pair : (m : List (ℕ × ℕ)) (x : ℕ) (xs : List ℕ) → any_wrong m xs ≡ false → has x xs ≡ true → wrong_word (x % 2 ^ 64) (maybe_u32 (lookup (number_in x) m)) ≡ false
+wrong_pair : (m : List (ℕ × ℕ)) (x : ℕ) (xs : List ℕ) → any_wrong m xs ≡ false → has x xs ≡ true → wrong_word (x % 2 ^ 64) ((lookup (number_in x) m)) ≡ false
 unfolding any_wrong has
 wrong_pair m x [] e h = absurd (true≢false (sym h))
 wrong_pair m x (y ∷ ys) e h =
-    let both = both_false (wrong_word (y % 2 ^ 64) (maybe_u32 (lookup (number_in y) m))) (any_wrong m ys) e in
+    let both = both_false (wrong_word (y % 2 ^ 64) ((lookup (number_in y) m))) (any_wrong m ys) e in
     ⊎_elim
     (λ t. rw (eqb-true x y t) both.0)
     (λ t. wrong_pair m x ys both.1 (rw t at h))
@@ -172,9 +175,17 @@ wrong_pair m x (y ∷ ys) e h =
 
 -- by pair i of the words and those after it
 pub wrong_at : (m : List (ℕ × ℕ)) (w : List ℕ) (n i : ℕ) → i < n → ((k : ℕ) → get_or w k 0 < 2 ^ 64)
-    → any_wrong m (drop i (pairs_of w n)) ≡ wrong_word (get_or w (2 * i + 1) 0) (maybe_u32 (lookup (get_or w (2 * i) 0) m)) || any_wrong m (drop (i + 1) (pairs_of w n))
+    → any_wrong m (drop i (pairs_of w n)) ≡ wrong_word (get_or w (2 * i + 1) 0) ((lookup (get_or w (2 * i) 0) m)) || any_wrong m (drop (i + 1) (pairs_of w n))
 unfolding any_wrong
 wrong_at m w n i l small = rw (drop_at (pairs_of w n) i 0 (rw length_pairs l), number_at w n i l small, second w n small i l)
+
+-- by what is known of its child
+pub wrong_here : (c : Children) (i : ℕ) → i < c.pairs.count → {d : Child} {y : ℕ} {b : Bool} → d.number ≡ get_or c.pairs.words.now (2 * i) 0 → Known (book_of c.book.bytes.now) d
+    → y ≡ get_or c.pairs.words.now (2 * i + 1) 0 → b ≡ wrong_word y d.parent
+    → let m = fs_parents (book_of c.book.bytes.now) in let xs = pairs_of c.pairs.words.now c.pairs.count in
+    any_wrong m (drop i xs) ≡ b || any_wrong m (drop (i + 1) xs)
+wrong_here c i l n k y b =
+    wrong_at (fs_parents (book_of c.book.bytes.now)) c.pairs.words.now c.pairs.count i l c.pairs.wide ∙ rw (b, k.parent, n, y)
 
 pub wrong_past : (m : List (ℕ × ℕ)) (w : List ℕ) (n i : ℕ) → n ≤ i → any_wrong m (drop i (pairs_of w n)) ≡ false
 unfolding any_wrong
@@ -182,13 +193,13 @@ wrong_past m w n i h = rw (drop_past (pairs_of w n) i (omega (arith, length_pair
 
 -- the finding of an entry, by its pair
 entry_right : (m : List (ℕ × ℕ)) (k : Bkey) → let x = place_pair 1 k.offset (min k.inode (2 ^ 32)) in
-    wrong_word (x % 2 ^ 64) (maybe_u32 (lookup (number_in x) m)) ≡ false → wrong_entry k (lookup k.offset m) ≡ []
-unfolding number_in place_pair wrong_word maybe_u32 wrong_entry
+    wrong_word (x % 2 ^ 64) ((lookup (number_in x) m)) ≡ false → wrong_entry k (lookup k.offset m) ≡ []
+unfolding number_in place_pair wrong_word wrong_entry
 entry_right m k e = by (lookup k.offset m) (rw (pair_first k.offset (1 * 2 ^ 32 + min k.inode (2 ^ 32)) (omega arith), pair_second k.offset (1 * 2 ^ 32 + min k.inode (2 ^ 32)) (omega arith)) at e)
   where
-    by : (o : Option ℕ) → wrong_word (1 * 2 ^ 32 + min k.inode (2 ^ 32)) (maybe_u32 o) ≡ false → wrong_entry k o ≡ []
-    by none e = absurd (omega (arith, ltb-true (1 * 2 ^ 32 + min k.inode (2 ^ 32)) (2 ^ 32) (not-false _ e)))
-    by (some parent) e =
+    by : (o : Option ℕ) → wrong_word (1 * 2 ^ 32 + min k.inode (2 ^ 32)) o ≡ false → wrong_entry k o ≡ []
+    by None e = absurd (omega (arith, ltb-true (1 * 2 ^ 32 + min k.inode (2 ^ 32)) (2 ^ 32) (not-false _ e)))
+    by (Some parent) e =
         let big = le-ltb (1 * 2 ^ 32 + min k.inode (2 ^ 32)) (2 ^ 32) (omega arith) in
         let both = both_false (leb (2 ^ 33) (1 * 2 ^ 32 + min k.inode (2 ^ 32))) (not (eqb (1 * 2 ^ 32 + min k.inode (2 ^ 32)) (2 ^ 32 + parent))) (rw big at e) in
         let same = eqb-true (1 * 2 ^ 32 + min k.inode (2 ^ 32)) (2 ^ 32 + parent) (not-false _ both.1) in
@@ -203,7 +214,7 @@ entry_has p k e = let x = place_pair 1 k.offset (min k.inode (2 ^ 32)) in ⊎_el
     (tested (has_fs_parent k))
 
 module _ (m : List (ℕ × ℕ)) (s : List ℕ) where
-  none_wrong : (n p i : ℕ) → ((x : ℕ) → has x (gather child_pair s n p) ≡ true → wrong_word (x % 2 ^ 64) (maybe_u32 (lookup (number_in x) m)) ≡ false)
+  none_wrong : (n p i : ℕ) → ((x : ℕ) → has x (gather child_pair s n p) ≡ true → wrong_word (x % 2 ^ 64) ((lookup (number_in x) m)) ≡ false)
       → each (λ _ k. only (is_entry k) (wrong_entry k (lookup k.offset m))) i (keys_from s n p) ≡ []
   unfolding gather keys_from each only
   none_wrong zero p i h = refl
@@ -233,11 +244,11 @@ unfolding missing_entry
 missing_one keys child w b = rw (b, w)
 
 module _ (k : Bkey) (m : List (ℕ × ℕ)) {child : ℕ} where
-  pub wrong_parent : {parent inode : ℕ} → lookup child m ≡ some parent → inode ≡ k.inode → child ≡ k.offset
+  pub wrong_parent : {parent inode : ℕ} → lookup child m ≡ Some parent → inode ≡ k.inode → child ≡ k.offset
       → when (not (eqb parent inode)) (finding 38 child parent) ≡ wrong_entry k (lookup k.offset m)
   unfolding wrong_entry
   wrong_parent f i c = rw (i, ← c, f)
 
-  pub wrong_none : lookup child m ≡ none → child ≡ k.offset → finding 38 child 0 ∷ [] ≡ wrong_entry k (lookup k.offset m)
+  pub wrong_none : lookup child m ≡ None → child ≡ k.offset → finding 38 child 0 ∷ [] ≡ wrong_entry k (lookup k.offset m)
   unfolding wrong_entry
   wrong_none f c = rw (← c, f)

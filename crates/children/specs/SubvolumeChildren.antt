@@ -1,6 +1,5 @@
 -- The rule `subvolume_children` (document 01, kinds 37 and 38).
-use Rattle.std.specs.Prelude.{ℕ, Bool, not, ◌&&◌, List, [], ◌∷◌, ◌++◌, length, eqb, leb}
-use Rattle.std.proofs.Math.Option.{Option, none, some}
+use Rattle.std.specs.Prelude.{ℕ, Bool, not, ◌&&◌, List, [], ◌∷◌, ◌++◌, length, eqb, leb, None, Option, Some}
 use Rattle.findings.specs.Findings.{Finding, finding, when, only, each}
 use Rattle.book.specs.Maps.{lookup}
 use Rattle.book.specs.Book.{Bkey, Book, is}
@@ -35,8 +34,8 @@ missing_entry keys e = when (not (eqb e.1 0) && not (any_key (is_entry_of e.1 e.
 
 -- 38 subvol_children_entry_wrong (child, its parent or 0): an entry whose child has another parent, or is not there
 unfoldable pub wrong_entry : Bkey → Option ℕ → List Finding
-wrong_entry k none = finding 38 k.offset 0 ∷ []
-wrong_entry k (some parent) = when (not (eqb parent k.inode)) (finding 38 k.offset parent)
+wrong_entry k None = finding 38 k.offset 0 ∷ []
+wrong_entry k (Some parent) = when (not (eqb parent k.inode)) (finding 38 k.offset parent)
 
 -- the subvolumes in id order, then the entries in key order
 unfoldable pub subvolume_children : Book → List Finding

@@ -1,54 +1,43 @@
 -- What the code computes of a claimant is what the rule asks of it.
-use Prim.Native.Nat.{ℕ, zero, suc, ◌+◌, ◌≤◌, ◌<◌}
+use Prim.Native.Nat.{ℕ, zero, suc, ◌≤◌, ◌<◌}
 use mathlib.Core.Path.{◌≡◌, refl, ap}
 use mathlib.Core.Bool.{Bool, true, false, cond, not, ◌&&◌}
 use mathlib.Core.List.{List, [], ◌∷◌, ◌++◌, map}
-use native.Mathlib.Omega.{arith}
 use lib.ListN.{length}
-use lib.Dec.{eqb, leb}
-use borrow.Author.Tests.{le-leb, lt-leb}
+use lib.Dec.{leb, ltb}
+use borrow.Author.Tests.{le-leb, lt-leb, lt-ltb, le-ltb}
 use Rattle.bits.specs.Bits.{le_at}
 use Rattle.pairs.specs.Pairs.{pair}
-use Rattle.pairs.proofs.Order.{both_true}
-use Rattle.book.specs.declared.KeyFront.{KeyFront}
-use Rattle.book.specs.Book.{is, key_end, keys_from}
+use Rattle.pairs.proofs.Order.{both_true, less_or_not}
+use Rattle.book.specs.Book.{Bkey, is, key_end, keys_from}
 use Rattle.states.specs.StateDistance.{distance, subvol_deleted}
 use Rattle.subvolumes.specs.SubvolumeStates.{subvol_state}
 use Rattle.claims.specs.SnapshotClaims.{claims, claimed}
-use Rattle.walk.specs.Keys.{key_at, AtKey, gather}
+use Rattle.walk.specs.Keys.{key_at, gather}
 use Rattle.claims.specs.Steps.{claim_pair}
-use Rattle.walk.proofs.Gather.{at_length, at_long, long_enough}
+use Rattle.book.proofs.AtKey.{long_enough}
 
-module _ {s : List ℕ} {p : ℕ} {f : KeyFront} (k : AtKey s p f) where
-  pub claims_short : (eqb f.btree 8 && eqb f.key_type 21) && leb 8 f.len ≡ true → f.len < 44 → true ≡ claims (key_at s p)
+module _ (k : Bkey) where
+  pub claims_short : is 8 21 k && leb 8 (length k.value) ≡ true → length k.value < 44 → true ≡ claims k
   unfolding claims
-  claims_short e h = rw (at_long k 8 21 8 e, lt-leb 44 (length (key_at s p).value) (omega (arith, at_length k)))
+  claims_short e h = rw (e, lt-leb 44 (length k.value) h)
 
-  pub claims_long : (eqb f.btree 8 && eqb f.key_type 21) && leb 8 f.len ≡ true → 44 ≤ f.len → {w d : ℕ} → w ≡ le_at (key_at s p).value 40 4
-      → d ≡ distance w subvol_deleted → not (leb d 2) ≡ claims (key_at s p)
+  pub claims_long : is 8 21 k && leb 8 (length k.value) ≡ true → 44 ≤ length k.value → {w d : ℕ} → w ≡ le_at k.value 40 4
+      → d ≡ distance w subvol_deleted → ltb 2 d ≡ claims k
   unfolding claims subvol_state
-  claims_long e h w d = rw (at_long k 8 21 8 e, le-leb 44 (length (key_at s p).value) (omega (arith, at_length k)), d, w)
+  claims_long e h {d = d} w a = rw (e, le-leb 44 (length k.value) h, ← w, ← a) (above d)
+    where
+      above : (d : ℕ) → ltb 2 d ≡ not (leb d 2)
+      above d = less_or_not 2 d (λ h. rw (lt-ltb 2 d h, lt-leb d 2 h)) (λ h. rw (le-ltb 2 d h, le-leb d 2 h))
 
-  pub claims_none : (eqb f.btree 8 && eqb f.key_type 21) && leb 8 f.len ≡ false → false ≡ claims (key_at s p)
+  pub claims_none : is 8 21 k && leb 8 (length k.value) ≡ false → false ≡ claims k
   unfolding claims
-  claims_none e = rw (at_long k 8 21 8 e)
+  claims_none e = rw e
 
   -- a claimant has the word that it claims by
-  pub claims_word : claims (key_at s p) ≡ true → 4 + 4 ≤ f.len
+  pub claims_word : claims k ≡ true → 8 ≤ length k.value
   unfolding claims
-  claims_word e =
-      let key = key_at s p in
-      let test = (both_true (is 8 21 key && leb 8 (length key.value)) (not (leb 44 (length key.value) && leb (distance (subvol_state key) subvol_deleted) 2)) e).0 in
-      omega (arith, at_length k, long_enough (is 8 21 key) 8 (length key.value) test)
-
--- the pair that a key gives
-pub claim_yes : (s : List ℕ) (p : ℕ) {v : ℕ} → claims (key_at s p) ≡ true → v ≡ le_at (key_at s p).value 4 4 → pair v 0 ∷ [] ≡ claim_pair p (key_at s p)
-unfolding claim_pair
-claim_yes s p e v = rw (e, v)
-
-pub claim_no : (s : List ℕ) (p : ℕ) → claims (key_at s p) ≡ false → claim_pair p (key_at s p) ≡ []
-unfolding claim_pair
-claim_no s p e = rw e
+  claims_word e = long_enough (is 8 21 k) 8 (length k.value) (both_true (is 8 21 k && leb 8 (length k.value)) (not (leb 44 (length k.value) && leb (distance (subvol_state k) subvol_deleted) 2)) e).0
 
 -- the claims that the walk puts
 

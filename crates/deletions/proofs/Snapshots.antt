@@ -1,7 +1,7 @@
 -- The three sets that the code looks up are those that the rule asks for.
 use Prim.Native.Nat.{ℕ, ◌/◌, ◌^◌, ◌≤◌}
 use mathlib.Core.Path.{◌≡◌, refl, sym, ap₂, ◌∙◌}
-use mathlib.Core.Bool.{Bool, true, false, true≢false, cond, not, ◌&&◌, ◌||◌}
+use mathlib.Core.Bool.{Bool, true, false, true≢false, cond, not, ◌&&◌}
 use mathlib.Core.List.{List, [], ◌∷◌, ◌++◌}
 use native.Mathlib.Omega.{arith}
 use lib.ListN.{length}
@@ -12,16 +12,14 @@ use Rattle.findings.specs.Findings.{finding, when, only, each, bytes_of}
 use Rattle.pairs.specs.Pairs.{pair, sort, has}
 use Rattle.pairs.proofs.Order.{both_true}
 use Rattle.pairs.proofs.Bounds.{has_sort}
-use Rattle.book.specs.declared.KeyFront.{KeyFront}
 use Rattle.book.specs.Book.{Bkey, Book, is, keys_from}
 use Rattle.book.specs.Walk.{KeysFit}
-use Rattle.states.specs.StateDistance.{snap_live, snap_will_delete, snap_no_keys, snap_deleted, subvol_live}
+use Rattle.states.specs.StateDistance.{snap_live, snap_will_delete, subvol_live}
 use Rattle.deletions.specs.SnapshotStates.{has_snap_state, snap_state, live_snapshot, live_subvolume, accounted_id, accounted, live_child, subvolume_is_live, snapshot_state_findings, snapshot_states}
-use Rattle.walk.specs.Keys.{key_at, AtKey, gather, any_key}
+use Rattle.walk.specs.Keys.{gather, any_key}
 use Rattle.subvolumes.specs.SubvolumeStates.{is_live_snapshot}
-use Rattle.deletions.specs.Steps.{is_live_subvolume, is_accounted, set_pair, will_delete, deleting, set_findings}
+use Rattle.deletions.specs.Steps.{is_live_subvolume, is_accounted, set_pair, will_delete, deleting, has_data, set_findings}
 use Rattle.walk.proofs.Sets.{aside, has_nil, has_same, has_other, other_btree, any_by}
-use Rattle.walk.proofs.Gather.{at_long, long_enough}
 use Rattle.findings.proofs.Walk.{each_same}
 
 -- which of a key's three pairs it gives
@@ -93,7 +91,7 @@ module _ (id p : ℕ) (k : Bkey) where
 
 -- the sets, sorted, say of every key what the rule says
 pub sets_all : (b : Book) (s : List ℕ) (n p : ℕ) {xs : List ℕ} → length s ≤ 1048576 → KeysFit s n p → b.keys ≡ keys_from s n p → xs ≡ sort (gather set_pair s n p) → each (λ _ k. set_findings xs k) 0 b.keys ≡ snapshot_states b
-unfolding set_findings deleting will_delete snapshot_state_findings snapshot_states live_child subvolume_is_live
+unfolding set_findings deleting has_data will_delete snapshot_state_findings snapshot_states live_child subvolume_is_live
 sets_all b s n p {xs} few fit keys sorted =
     let live : (id : ℕ) → has (pair id 0) xs ≡ any_key (live_snapshot id) b.keys = λ id. rw (sorted, has_sort, keys) (any_by (pair id 0) set_pair (live_snapshot id) s few (λ p k l. live_key id p k) n p fit) in
     let subvolume : (id : ℕ) → has (pair id 1) xs ≡ any_key (live_subvolume id) b.keys = λ id. rw (sorted, has_sort, keys) (any_by (pair id 1) set_pair (live_subvolume id) s few (λ p k l. subvolume_key id p k) n p fit) in
@@ -104,44 +102,27 @@ sets_all b s n p {xs} few fit keys sorted =
 
 -- ---- what the code computes of a key
 
-module _ {s : List ℕ} {p : ℕ} {f : KeyFront} (k : AtKey s p f) where
-  pub subvolume_yes : (eqb f.btree 8 && eqb f.key_type 21) && leb 44 f.len ≡ true → {w : ℕ} → w ≡ le_at (key_at s p).value 40 4 → eqb w subvol_live ≡ is_live_subvolume (key_at s p)
-  unfolding is_live_subvolume
-  subvolume_yes e w = rw (at_long k 8 21 44 e, w)
-
-  pub subvolume_no : (eqb f.btree 8 && eqb f.key_type 21) && leb 44 f.len ≡ false → false ≡ is_live_subvolume (key_at s p)
-  unfolding is_live_subvolume
-  subvolume_no e = rw (at_long k 8 21 44 e)
-
-  pub accounted_yes : (eqb f.btree 20 && eqb f.key_type 34) && leb 8 f.len ≡ true → {i w : ℕ} → i ≡ (key_at s p).inode → w ≡ le_at (key_at s p).value 0 8
-      → eqb (i / 2 ^ 56) 5 && not (eqb w 0) ≡ is_accounted (key_at s p)
+module _ (k : Bkey) {i w : ℕ} (inode : i ≡ k.inode) (word : w ≡ le_at k.value 0 8) where
+  pub accounted_yes : is 20 34 k && leb 8 (length k.value) ≡ true → eqb (i / 2 ^ 56) 5 && not (eqb w 0) ≡ is_accounted k
   unfolding is_accounted
-  accounted_yes e inode word =
+  accounted_yes e =
       ap₂ (λ (i w : ℕ). eqb (i / 2 ^ 56) 5 && not (eqb w 0)) inode word
-      ∙ both (is 20 34 (key_at s p)) (leb 8 (length (key_at s p).value)) (eqb ((key_at s p).inode / 2 ^ 56) 5) (not (eqb (le_at (key_at s p).value 0 8) 0)) (at_long k 20 34 8 e)
+      ∙ both (is 20 34 k) (leb 8 (length k.value)) (eqb (k.inode / 2 ^ 56) 5) (not (eqb (le_at k.value 0 8) 0)) e
     where
       both : (a b c d : Bool) → a && b ≡ true → c && d ≡ (a && c) && (b && d)
       both true true c d e = refl
       both true false c d e = absurd (true≢false (sym e))
       both false b c d e = absurd (true≢false (sym e))
 
-  pub accounted_no : (eqb f.btree 20 && eqb f.key_type 34) && leb 8 f.len ≡ false → false ≡ is_accounted (key_at s p)
-  unfolding is_accounted
-  accounted_no e = neither (is 20 34 (key_at s p)) (leb 8 (length (key_at s p).value)) (eqb ((key_at s p).inode / 2 ^ 56) 5) (not (eqb (le_at (key_at s p).value 0 8) 0)) (at_long k 20 34 8 e)
-    where
-      neither : (a b c d : Bool) → a && b ≡ false → false ≡ (a && c) && (b && d)
-      neither true true c d e = absurd (true≢false e)
-      neither true false true d e = refl
-      neither true false false d e = refl
-      neither false b c d e = refl
-
-  pub judged_yes : (eqb f.btree 9 && eqb f.key_type 22) && leb 60 f.len ≡ true → {o : ℕ} → o ≡ (key_at s p).offset → leb o 4294967295 ≡ has_snap_state (key_at s p) && leb (key_at s p).offset 4294967295
-  unfolding has_snap_state
-  judged_yes e o = rw (at_long k 9 22 60 e, o)
-
-  pub judged_not : (eqb f.btree 9 && eqb f.key_type 22) && leb 60 f.len ≡ false → false ≡ has_snap_state (key_at s p) && leb (key_at s p).offset 4294967295
-  unfolding has_snap_state
-  judged_not e = rw (at_long k 9 22 60 e)
+pub accounted_no : (k : Bkey) → is 20 34 k && leb 8 (length k.value) ≡ false → false ≡ is_accounted k
+unfolding is_accounted
+accounted_no k e = neither (is 20 34 k) (leb 8 (length k.value)) (eqb (k.inode / 2 ^ 56) 5) (not (eqb (le_at k.value 0 8) 0)) e
+  where
+    neither : (a b c d : Bool) → a && b ≡ false → false ≡ (a && c) && (b && d)
+    neither true true c d e = absurd (true≢false e)
+    neither true false true d e = refl
+    neither true false false d e = refl
+    neither false b c d e = refl
 
 -- the pair that a key gives
 module _ (p : ℕ) (k : Bkey) where
@@ -157,36 +138,30 @@ module _ (p : ℕ) (k : Bkey) where
   unfolding set_pair accounted_id
   set_accounted e h a i o = rw (e, h, a, o, i)
 
-  pub set_none : is_live_snapshot k ≡ false → is_live_subvolume k ≡ false → is_accounted k ≡ false → set_pair p k ≡ []
+  pub set_none : is_live_snapshot k ≡ false → is_live_subvolume k ≡ false → is_accounted k ≡ false → [] ≡ set_pair p k
   unfolding set_pair
   set_none e h a = rw (e, h, a)
 
 -- the findings of a key
 module _ (xs : List ℕ) (k : Bkey) where
-  pub deleting_yes : {st w l r o : ℕ} → st ≡ le_at k.value 56 4 → st ≡ snap_will_delete → w ≡ le_at k.value 16 4 → l ≡ le_at k.value 8 4 → r ≡ le_at k.value 12 4 → o ≡ k.offset
-      → will_delete xs w l r o ≡ deleting xs k
-  unfolding deleting only snap_state
-  deleting_yes {st} state e w l r o = rw (← state, eq-eqb st snap_will_delete e, w, l, r, o)
+  pub will_findings : {o : ℕ} {a b c : Bool} → a ≡ has (pair (le_at k.value 16 4) 1) xs → b ≡ has (pair (le_at k.value 8 4) 0) xs → c ≡ has (pair (le_at k.value 12 4) 0) xs
+      → o ≡ k.offset → when a (finding 33 o 0) ++ when (not a && (b && c)) (finding 34 o 0) ≡ will_delete xs k
+  unfolding will_delete
+  will_findings a b c o = rw (a, b, c, o)
 
-  pub deleting_no : {st : ℕ} → st ≡ le_at k.value 56 4 → (st ≡ snap_will_delete → ⊥) → deleting xs k ≡ []
-  unfolding deleting only snap_state
-  deleting_no {st} state d = rw (← state, ne_eqb st snap_will_delete d)
+  module _ {st : ℕ} (state : st ≡ le_at k.value 56 4) where
+    pub deleting_yes : st ≡ snap_will_delete → will_delete xs k ≡ deleting xs k
+    unfolding deleting only snap_state
+    deleting_yes e = rw (← state, eq-eqb st snap_will_delete e)
 
-  pub sets_yes : has_snap_state k && leb k.offset 4294967295 ≡ true → {st o : ℕ} → st ≡ le_at k.value 56 4 → o ≡ k.offset
-      → deleting xs k ++ when ((eqb st snap_no_keys || eqb st snap_deleted) && has (pair o 2) xs) (finding 35 o 0) ≡ set_findings xs k
-  unfolding set_findings only snap_state
-  sets_yes e st o = rw (e, st, o)
+    pub deleting_no : (st ≡ snap_will_delete → ⊥) → deleting xs k ≡ []
+    unfolding deleting only snap_state
+    deleting_no d = rw (← state, ne_eqb st snap_will_delete d)
+
+  pub sets_yes : has_snap_state k && leb k.offset 4294967295 ≡ true → deleting xs k ++ has_data xs k ≡ set_findings xs k
+  unfolding set_findings only
+  sets_yes e = rw e
 
   pub sets_no : has_snap_state k && leb k.offset 4294967295 ≡ false → set_findings xs k ≡ []
   unfolding set_findings only
   sets_no e = rw e
-
-pub snap_long : (k : Bkey) → has_snap_state k && leb k.offset 4294967295 ≡ true → 60 ≤ length k.value
-unfolding has_snap_state
-snap_long k e = long_enough (is 9 22 k) 60 (length k.value) (both_true (is 9 22 k && leb 60 (length k.value)) (leb k.offset 4294967295) e).0
-
--- the findings of a snapshot that will be deleted, and of one with keys accounted to it
-pub deleted_findings : (xs : List ℕ) (w l r o : ℕ) {a b c : Bool} → a ≡ has (pair w 1) xs → b ≡ has (pair l 0) xs → c ≡ has (pair r 0) xs
-    → when a (finding 33 o 0) ++ when (not a && (b && c)) (finding 34 o 0) ≡ will_delete xs w l r o
-unfolding will_delete
-deleted_findings xs w l r o a b c = rw (a, b, c)

@@ -23,18 +23,20 @@ set_pair p k =
     (pair k.offset 0 ∷ [])
     (cond (is_live_subvolume k) (pair k.offset 1 ∷ []) (cond (is_accounted k) (pair (accounted_id k) 2 ∷ []) []))
 
--- what the sets say of a snapshot that will be deleted, with these words of subvolume and children
-unfoldable pub will_delete : List ℕ → ℕ → ℕ → ℕ → ℕ → List Finding
-will_delete xs subvolume left right offset =
-    when (has (pair subvolume 1) xs) (finding 33 offset 0)
-    ++ when (not (has (pair subvolume 1) xs) && (has (pair left 0) xs && has (pair right 0) xs)) (finding 34 offset 0)
+-- what the sets say of a snapshot that will be deleted, by its words of subvolume and children
+unfoldable pub will_delete : List ℕ → Bkey → List Finding
+will_delete xs k =
+    let live = has (pair (le_at k.value 16 4) 1) xs in
+    when live (finding 33 k.offset 0)
+    ++ when (not live && (has (pair (le_at k.value 8 4) 0) xs && has (pair (le_at k.value 12 4) 0) xs)) (finding 34 k.offset 0)
 
 unfoldable pub deleting : List ℕ → Bkey → List Finding
-deleting xs k = only (eqb (snap_state k) snap_will_delete) (will_delete xs (le_at k.value 16 4) (le_at k.value 8 4) (le_at k.value 12 4) k.offset)
+deleting xs k = only (eqb (snap_state k) snap_will_delete) (will_delete xs k)
+
+-- of one with no keys or deleted
+unfoldable pub has_data : List ℕ → Bkey → List Finding
+has_data xs k = when ((eqb (snap_state k) snap_no_keys || eqb (snap_state k) snap_deleted) && has (pair k.offset 2) xs) (finding 35 k.offset 0)
 
 -- what the sets say of a key
 unfoldable pub set_findings : List ℕ → Bkey → List Finding
-set_findings xs k =
-    only (has_snap_state k && leb k.offset 4294967295)
-    (deleting xs k
-    ++ when ((eqb (snap_state k) snap_no_keys || eqb (snap_state k) snap_deleted) && has (pair k.offset 2) xs) (finding 35 k.offset 0))
+set_findings xs k = only (has_snap_state k && leb k.offset 4294967295) (deleting xs k ++ has_data xs k)

@@ -1,14 +1,14 @@
 // The rule on snapshots that are deleted or will be.
 #![tactic(auto)]
 
-ghost use Rattle.std.specs.Prelude.{◌≡◌, ◌++◌, ◌&&◌, ◌||◌, ◌+◌, ◌*◌, ◌^◌, ◌<◌, ◌≤◌, length, eqb, leb};
+ghost use Rattle.std.specs.Prelude.{◌≡◌, true, ◌&&◌, ◌+◌, ◌*◌, ◌^◌, ◌<◌, ◌≤◌, length, leb};
 ghost use Rattle.bits.specs.Bits.{le_at};
-ghost use Rattle.findings.specs.Findings.{sink, finding, when, each, bytes_of, Found, Added};
-ghost use Rattle.pairs.specs.Pairs.{pair, pairs_of, Sorted, has};
+ghost use Rattle.findings.specs.Findings.{each, bytes_of};
+ghost use Rattle.findings.specs.Reports.{Reports};
+ghost use Rattle.pairs.specs.Pairs.{pairs_of};
 ghost use Rattle.book.specs.Book.{book_of};
-ghost use Rattle.book.specs.Walk.{Opened};
-ghost use Rattle.walk.specs.Keys.{key_at, AtKey, gather};
-ghost use Rattle.states.specs.StateDistance.{snap_no_keys, snap_deleted};
+ghost use Rattle.book.specs.Turns.{held};
+ghost use Rattle.walk.specs.Gives.{pair_in};
 ghost use Rattle.deletions.specs.SnapshotStates.{has_snap_state, snapshot_states};
 ghost use Rattle.deletions.specs.Steps.{
   is_live_subvolume,
@@ -16,33 +16,48 @@ ghost use Rattle.deletions.specs.Steps.{
   set_pair,
   will_delete,
   deleting,
+  has_data,
   set_findings,
 };
 
-use book::{Header, KeyFront, Places};
-use findings::emit_if;
+use book::names::{btree_id, key_type};
+use book::open::{Book, Key};
+use findings::kind::Kind;
+use findings::report::Report;
+use pairs::SortedPairs;
 use states::{SNAP_DELETED, SNAP_NO_KEYS, SNAP_STATE, SNAP_WILL_DELETE, SUBVOL_LIVE, SUBVOL_STATE};
+use subvolumes::is_live_snapshot;
+use walk::put::put_pairs;
 
-// Whether the key at byte p is a live subvolume.
-fn is_live_subvolume(book: &[u8], p: usize, f: KeyFront) -> bool
-    requires { AtKey book.now p f }
-    ensures { result ≡ is_live_subvolume (key_at book.now p) }
+// The sets of ids that the rule asks for: a pair is an id and the number of its set.
+#[derive(Clone, Copy)]
+enum Set {
+    LiveSnapshots = 0,
+    LiveSubvolumes = 1,
+    Accounted = 2,
+}
+
+// The kind of accounting keys that count a snapshot's keys: the first byte of the position.
+const ACCOUNTING_SNAPSHOT: u64 = 5;
+
+// Whether a key is a live subvolume.
+fn is_live_subvolume(key: Key<'_>) -> bool
+    ensures { result ≡ is_live_subvolume (held key.entry) }
 {
-    if ((f.btree == 8) & (f.key_type == 21)) & (44 <= f.len) {
-        return walk::key_word(book, p, f, SUBVOL_STATE) == SUBVOL_LIVE;
+    if key.holds(btree_id::SUBVOLUMES, key_type::SUBVOLUME, 44) {
+        return key.word(SUBVOL_STATE) == SUBVOL_LIVE;
     }
     false
 }
 
-// Whether the key at byte p is an accounting key of a snapshot with keys counted.
-fn is_accounted(book: &[u8], p: usize, f: KeyFront) -> bool
-    requires { AtKey book.now p f }
-    ensures { result ≡ is_accounted (key_at book.now p) }
+// Whether a key is an accounting key of a snapshot with keys counted.
+fn is_accounted(key: Key<'_>) -> bool
+    ensures { result ≡ is_accounted (held key.entry) }
 {
-    if ((f.btree == 20) & (f.key_type == 34)) & (8 <= f.len) {
-        let inode = walk::key_inode(book, p, f);
-        let keys = bits::le64(book, p + 28);
-        return (inode / 0x0100_0000_0000_0000 == 5) & (keys != 0);
+    if key.holds(btree_id::ACCOUNTING, key_type::ACCOUNTING, 8) {
+        let kind = key.inode() / 0x0100_0000_0000_0000;
+        let keys = bits::le64(key.value(), 0);
+        return (kind == ACCOUNTING_SNAPSHOT) & (keys != 0);
     }
     false
 }
@@ -51,200 +66,109 @@ fn is_accounted(book: &[u8], p: usize, f: KeyFront) -> bool
 fn accounted_id(inode: u64) -> u64
     ensures { result ≡ le_at (bytes_of 8 inode) 1 4 }
 {
-    inode / 0x1_0000_0000_0000 % 256
-        + inode / 0x100_0000_0000 % 256 * 0x100
-        + inode / 0x1_0000_0000 % 256 * 0x1_0000
-        + inode / 0x100_0000 % 256 * 0x100_0000
+    let bytes = inode.to_be_bytes();
+    u32::from_le_bytes([bytes[1], bytes[2], bytes[3], bytes[4]]) as u64
 }
 
-// Puts the pair that the key at byte p gives behind the first n, and returns their number with it.
-fn put_set(book: &[u8], p: usize, f: KeyFront, work: &mut [u64], n: usize) -> usize
-    requires { AtKey book.now p f × (2 * n + 2 ≤ length work.old) }
-    ensures put { pairs_of work.new result ≡ pairs_of work.old n ++ set_pair p (key_at book.now p) }
-    ensures few { result ≤ n + 1 }
+// The pair of a key, if it is a live snapshot, a live subvolume or an accounting key with keys counted: the id and its
+// set.
+fn set_pair(key: Key<'_>) -> Option<(u64, u64)>
+    ensures { pair_in result ≡ set_pair key.entry.at (held key.entry) }
 {
-    if subvolumes::is_live_snapshot(book, p, f) {
-        pairs::put_pair(work, n, walk::key_offset(book, p, f), 0);
-        return n + 1;
+    if is_live_snapshot(key) {
+        return Some((key.offset(), Set::LiveSnapshots as u64));
     }
-    if is_live_subvolume(book, p, f) {
-        pairs::put_pair(work, n, walk::key_offset(book, p, f), 1);
-        return n + 1;
+    if is_live_subvolume(key) {
+        return Some((key.offset(), Set::LiveSubvolumes as u64));
     }
-    if is_accounted(book, p, f) {
-        pairs::put_pair(work, n, accounted_id(walk::key_inode(book, p, f)), 2);
-        return n + 1;
+    if is_accounted(key) {
+        return Some((accounted_id(key.inode()), Set::Accounted as u64));
     }
-    n
+    None
 }
 
-// Puts a pair for each live snapshot, live subvolume and accounted id, and returns their number.
-fn put_sets(book: &[u8], h: Header, at: Places, work: &mut [u64]) -> usize
-    requires { Opened book.now h at × (2 * h.keys ≤ length work.old) }
-    ensures put { pairs_of work.new result ≡ gather set_pair book.now h.keys at.keys }
-    ensures few { result ≤ h.keys }
+// The findings of a snapshot that will be deleted: its subvolume is live, or else both its children are.
+fn show_will_delete(sets: SortedPairs<'_>, key: Key<'_>, report: &mut Report<'_>)
+    requires { (60 ≤ length (held key).value) × (report.old.found < 2 ^ 61) }
+    ensures reports { Reports report.old (will_delete (pairs_of sets.entry.words.now sets.entry.count) (held key.entry)) report.new }
+    ensures few { report.new.found ≤ report.old.found + 2 }
 {
-    let mut left = h.keys;
-    let mut p = at.keys;
-    let mut n: usize = 0;
-    while 0 < left {
-        let f = book::key_front(book, p);
-        n = put_set(book, p, f, work, n);
-        p = p + 28 + f.len;
-        left -= 1;
+    let live = sets.has(key.word(16) as u64, Set::LiveSubvolumes as u64);
+    let left = sets.has(key.word(8) as u64, Set::LiveSnapshots as u64);
+    let right = sets.has(key.word(12) as u64, Set::LiveSnapshots as u64);
+    let id = key.offset();
+    report.emit_if(live, Kind::SnapshotDeletedButSubvolLive, id, 0);
+    let children = !live & (left & right);
+    report.emit_if(children, Kind::SnapshotDeletedHasLiveChildren, id, 0);
+}
+
+// The findings of a snapshot, if it will be deleted.
+fn show_deleting(sets: SortedPairs<'_>, key: Key<'_>, report: &mut Report<'_>)
+    requires { (60 ≤ length (held key).value) × (report.old.found < 2 ^ 61) }
+    ensures reports { Reports report.old (deleting (pairs_of sets.entry.words.now sets.entry.count) (held key.entry)) report.new }
+    ensures few { report.new.found ≤ report.old.found + 2 }
+{
+    if key.word(SNAP_STATE) == SNAP_WILL_DELETE {
+        show_will_delete(sets, key, report);
     }
-    n
 }
 
-// The findings of a snapshot that will be deleted, by the first n pairs, which are sorted.
-fn show_will_delete(
-    work: &[u64],
-    n: usize,
-    subvolume: u32,
-    left: u32,
-    right: u32,
-    offset: u64,
-    out: &mut [u8],
-    counts: &mut [u64],
-    m: usize,
-) -> usize
-    requires { (2 * n ≤ length work.now) × Sorted (pairs_of work.now n) × (m < 2 ^ 61) }
-    ensures added { Added (sink out.old counts.old) m (will_delete (pairs_of work.now n) subvolume left right offset) result (sink out.new counts.new) }
-    ensures few { result ≤ m + 2 }
+// The finding of a snapshot, if it is one with no keys or deleted and has keys counted.
+fn show_has_data(sets: SortedPairs<'_>, key: Key<'_>, report: &mut Report<'_>)
+    requires { (60 ≤ length (held key).value) × (report.old.found < 2 ^ 61) }
+    ensures reports { Reports report.old (has_data (pairs_of sets.entry.words.now sets.entry.count) (held key.entry)) report.new }
+    ensures few { report.new.found ≤ report.old.found + 1 }
 {
-    let live = pairs::has_pair(work, n, subvolume as u64, 1);
-    let one = pairs::has_pair(work, n, left as u64, 0);
-    let other = pairs::has_pair(work, n, right as u64, 0);
-    let found = emit_if(out, counts, m, live, 33, offset, 0);
-    emit_if(out, counts, found, !live & (one & other), 34, offset, 0)
+    let state = key.word(SNAP_STATE);
+    let id = key.offset();
+    let data = sets.has(id, Set::Accounted as u64);
+    let bad = ((state == SNAP_NO_KEYS) | (state == SNAP_DELETED)) & data;
+    report.emit_if(bad, Kind::SnapshotDeletedButHasData, id, 0);
 }
 
-// The finding of a snapshot with this state, if it is one with no keys or deleted, by the first n pairs, which are sorted.
-fn show_has_data(
-    work: &[u64],
-    n: usize,
-    state: u32,
-    offset: u64,
-    out: &mut [u8],
-    counts: &mut [u64],
-    m: usize,
-) -> usize
-    requires { (2 * n ≤ length work.now) × Sorted (pairs_of work.now n) × (m < 2 ^ 61) }
-    ensures added { Added (sink out.old counts.old) m (when ((eqb state snap_no_keys || eqb state snap_deleted) && has (pair offset 2) (pairs_of work.now n)) (finding 35 offset 0)) result (sink out.new counts.new) }
-    ensures few { result ≤ m + 1 }
+// Whether a key is a snapshot with a state whose offset is an id of 32 bits.
+fn is_judged(key: Key<'_>) -> bool
+    ensures judged { result ≡ has_snap_state (held key.entry) && leb (held key.entry).offset 4294967295 }
+    ensures long { result ≡ true → 60 ≤ length (held key.entry).value }
 {
-    let data = pairs::has_pair(work, n, offset, 2);
-    emit_if(
-        out,
-        counts,
-        m,
-        ((state == SNAP_NO_KEYS) | (state == SNAP_DELETED)) & data,
-        35,
-        offset,
-        0,
-    )
-}
-
-// Whether the key at byte p is a snapshot with a state whose offset is an id of 32 bits.
-fn is_judged(book: &[u8], p: usize, f: KeyFront) -> bool
-    requires { AtKey book.now p f }
-    ensures { result ≡ has_snap_state (key_at book.now p) && leb (key_at book.now p).offset 4294967295 }
-{
-    if ((f.btree == 9) & (f.key_type == 22)) & (60 <= f.len) {
-        return walk::key_offset(book, p, f) <= 0xffff_ffff;
+    if key.holds(btree_id::SNAPSHOTS, key_type::SNAPSHOT, 60) {
+        return key.offset() <= 0xffff_ffff;
     }
     false
 }
 
-// The findings of a snapshot that will be deleted, at byte p.
-fn show_deleting(
-    book: &[u8],
-    p: usize,
-    f: KeyFront,
-    work: &[u64],
-    n: usize,
-    out: &mut [u8],
-    counts: &mut [u64],
-    m: usize,
-) -> usize
-    requires { AtKey book.now p f × (60 ≤ f.len) × (2 * n ≤ length work.now) × Sorted (pairs_of work.now n) × (m < 2 ^ 61) }
-    ensures added { Added (sink out.old counts.old) m (deleting (pairs_of work.now n) (key_at book.now p)) result (sink out.new counts.new) }
-    ensures few { result ≤ m + 2 }
+// The findings of a key.
+fn show_snapshot(sets: SortedPairs<'_>, key: Key<'_>, report: &mut Report<'_>)
+    requires { report.old.found < 2 ^ 60 }
+    ensures reports { Reports report.old (set_findings (pairs_of sets.entry.words.now sets.entry.count) (held key.entry)) report.new }
+    ensures few { report.new.found ≤ report.old.found + 3 }
 {
-    if walk::key_word(book, p, f, SNAP_STATE) == SNAP_WILL_DELETE {
-        let subvolume = walk::key_word(book, p, f, 16);
-        let left = walk::key_word(book, p, f, 8);
-        let right = walk::key_word(book, p, f, 12);
-        let offset = walk::key_offset(book, p, f);
-        return show_will_delete(work, n, subvolume, left, right, offset, out, counts, m);
+    if is_judged(key) {
+        show_deleting(sets, key, report);
+        show_has_data(sets, key, report);
     }
-    m
 }
 
-// The findings of the key at byte p, by the first n pairs, which are sorted.
-fn show_snapshot(
-    book: &[u8],
-    p: usize,
-    f: KeyFront,
-    work: &[u64],
-    n: usize,
-    out: &mut [u8],
-    counts: &mut [u64],
-    m: usize,
-) -> usize
-    requires { AtKey book.now p f × (2 * n ≤ length work.now) × Sorted (pairs_of work.now n) × (m < 2 ^ 60) }
-    ensures added { Added (sink out.old counts.old) m (set_findings (pairs_of work.now n) (key_at book.now p)) result (sink out.new counts.new) }
-    ensures few { result ≤ m + 3 }
+// The findings of the snapshots.
+fn show_snapshots(book: Book<'_>, sets: SortedPairs<'_>, report: &mut Report<'_>)
+    requires { report.old.found < 2 ^ 58 }
+    ensures reports { Reports report.old (each (λ _ k. set_findings (pairs_of sets.entry.words.now sets.entry.count) k) 0 (book_of book.entry.bytes.now).keys) report.new }
+    ensures few { report.new.found ≤ report.old.found + book.entry.header.keys * 3 }
 {
-    if is_judged(book, p, f) {
-        let found = show_deleting(book, p, f, work, n, out, counts, m);
-        let state = walk::key_word(book, p, f, SNAP_STATE);
-        let offset = walk::key_offset(book, p, f);
-        return show_has_data(work, n, state, offset, out, counts, found);
+    for key in book.keys() {
+        show_snapshot(sets, key, report);
     }
-    m
-}
-
-// The findings of the snapshots, by the first n pairs, which are sorted.
-fn show_snapshots(
-    book: &[u8],
-    h: Header,
-    at: Places,
-    work: &[u64],
-    n: usize,
-    out: &mut [u8],
-    counts: &mut [u64],
-) -> usize
-    requires { Opened book.now h at × (2 * n ≤ length work.now) × Sorted (pairs_of work.now n) }
-    ensures found { Found (sink out.old counts.old) (each (λ _ k. set_findings (pairs_of work.now n) k) 0 (book_of book.now).keys) result (sink out.new counts.new) }
-    ensures few { result ≤ h.keys * 3 }
-{
-    let mut found: usize = 0;
-    let mut left = h.keys;
-    let mut p = at.keys;
-    while 0 < left {
-        let f = book::key_front(book, p);
-        found = show_snapshot(book, p, f, work, n, out, counts, found);
-        p = p + 28 + f.len;
-        left -= 1;
-    }
-    found
 }
 
 // The findings of snapshots whose state does not fit their subvolume, their children or the keys accounted to them.
-pub fn snapshot_states(
-    book: &[u8],
-    h: Header,
-    at: Places,
-    out: &mut [u8],
-    counts: &mut [u64],
-    work: &mut [u64],
-) -> usize
-    requires { Opened book.now h at × (2 * h.keys ≤ length work.old) }
-    ensures found { Found (sink out.old counts.old) (snapshot_states (book_of book.now)) result (sink out.new counts.new) }
-    ensures few { result ≤ h.keys * 3 }
+pub fn snapshot_states(book: Book<'_>, work: &mut [u64], report: &mut Report<'_>)
+    requires room { 2 * book.header.keys ≤ length work.old }
+    requires found { report.old.found < 2 ^ 58 }
+    ensures reports { Reports report.old (snapshot_states (book_of book.entry.bytes.now)) report.new }
+    ensures few { report.new.found ≤ report.old.found + book.entry.header.keys * 3 }
 {
-    let n = put_sets(book, h, at, work);
-    sorting::sort_pairs(work, n);
-    show_snapshots(book, h, at, work, n, out, counts)
+    let count = put_pairs(book, set_pair, work);
+    sorting::sort_pairs(work, count);
+    let sets = SortedPairs::new(work, count);
+    show_snapshots(book, sets, report);
 }

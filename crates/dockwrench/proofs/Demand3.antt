@@ -9,6 +9,8 @@ use lib.Dec.{ltb}
 use borrow.Author.Tests.{ltb-false}
 use Rattle.findings.specs.Findings.{sink, Found}
 use Rattle.book.specs.Book.{Book, book_of}
+use Rattle.std.specs.Prelude.{Result, Ok}
+use Rattle.book.specs.declared.refusal.Refusal.{Refusal}
 use Rattle.book.specs.Refusals.{Outcome, parse}
 use Rattle.rules.specs.Rules.{findings_of}
 use Rattle.rules.proofs.Demand3.{demand_3}
@@ -31,8 +33,8 @@ claim_refused e = record {
 }
 
 -- a book that was judged
-pub claim_judged : {s o o' c c' : List ℕ} {n : ℕ} {a : Checked} → parse s ≡ Outcome.accepted (book_of s) → Found (sink o c) (findings_of (book_of s)) n (sink o' c')
-    → a ≡ count_in (length o) n → Claim s (checked_answer a) o'
+pub claim_judged : {s o o' c c' : List ℕ} {n : ℕ} {a : Result Checked Refusal} → parse s ≡ Outcome.accepted (book_of s) → Found (sink o c) (findings_of (book_of s)) n (sink o' c')
+    → a ≡ Ok (count_in (length o) n) → Claim s (checked_answer a) o'
 unfolding count_in checked_answer
 claim_judged {s} {o} {o'} {n = n} {a = a} e f is =
     record { list = λ b is F. demand_3 b F; call = λ b p zero. go (ltb (length o) (17 * n)) refl (rw is at zero) ∙ ap findings_of (same b p) }
@@ -40,7 +42,7 @@ claim_judged {s} {o} {o'} {n = n} {a = a} e f is =
     same : (b : Book) → parse s ≡ Outcome.accepted b → book_of s ≡ b
     same b p = cc
 
-    go : (t : Bool) → ltb (length o) (17 * n) ≡ t → (checked_answer (cond t (checked.NoRoom n) (checked.Found n))).number ≡ 0 → decode (checked_answer a).count o' ≡ findings_of (book_of s)
+    go : (t : Bool) → ltb (length o) (17 * n) ≡ t → (checked_answer (Ok (cond t (checked.NoRoom n) (checked.Found n)))).number ≡ 0 → decode (checked_answer a).count o' ≡ findings_of (book_of s)
     go true q zero = absurd (omega arith)
     go false q zero =
         rw (is, q, f.buffer, f.count) (decode_put (findings_of (book_of s)) o (omega (arith, f.count, ltb-false (length o) (17 * n) q)) f.encodable)

@@ -9,12 +9,13 @@ use lib.ListN.{length}
 use Rattle.bits.specs.Bits.{bit, bits_at, be_at, le_at}
 use Rattle.findings.specs.Findings.{Finding, finding, bytes_of, encode, put}
 use Rattle.book.specs.Book.{header_of, places_of, entry_at, data_type_of, table_from, key_head, key_end, keys_from, Book, book_of}
-use Rattle.book.specs.Refusals.{refuse, ◌then◌, bad_rest, entry_verdict, table_verdict, key_verdict, keys_verdict, parts_verdict, header_verdict, book_verdict, Outcome, outcome_of, parse}
+use Rattle.book.specs.Refusals.{refuse, ◌then◌, bad_rest, entry_verdict, table_verdict, key_verdict, keys_verdict, parts_verdict, header_verdict, book_verdict, Outcome, outcome_of, parse, refusal}
 use Rattle.forest.specs.Forest.{ForestBook, Sound, Demand3}
 use Rattle.rules.specs.Rules.{findings_of}
 use Rattle.rules.proofs.Demand3.{demand_3}
 use Rattle.rules.proofs.Examples.{book, forest_book, no_findings, sound, one_finding, unsound}
 use Rattle.dockwrench.specs.declared.Checked.TheVariants as checked
+use Rattle.std.specs.Prelude.{Ok, Err}
 use Rattle.dockwrench.specs.Answers.{work_short, count_in, check_book, check_of, book_buffer, buffer_after, zeros, book_work, work_after}
 use Rattle.dockwrench.specs.Decode.{decode}
 
@@ -86,7 +87,7 @@ accepted false depth = refl
 
 -- what it answers for a book of this list, and leaves in the buffer and in the work area
 answer_is : (s : List ℕ) (b : Book) (fs : List Finding) (room words : ℕ) → parse s ≡ Outcome.accepted b → findings_of b ≡ fs
-    → check_of (parse s) room words ≡ cond (work_short b words) (checked.Refused 9 0) (count_in room (length fs))
+    → check_of (parse s) room words ≡ cond (work_short b words) (Err (refusal 9 0)) (Ok (count_in room (length fs)))
 unfolding check_of check_book
 answer_is s b fs room words is list = rw (is, list)
 
@@ -112,7 +113,7 @@ pub record Shown (s : List ℕ) (b : Book) (fs : List Finding) (after : List ℕ
   pub reads : parse s ≡ Outcome.accepted b
   pub forest : ForestBook b
   pub list : findings_of b ≡ fs
-  pub answer : check_of (parse s) (length buffer) (length work) ≡ checked.Found (length fs)
+  pub answer : check_of (parse s) (length buffer) (length work) ≡ Ok (checked.Found (length fs))
   pub buffer_left : buffer_after (parse s) (length work) buffer ≡ after
   pub work_left : work_after (parse s) work ≡ 0 ∷ 0 ∷ 0 ∷ 0 ∷ 0 ∷ 0 ∷ []
   pub decoded : decode (length fs) after ≡ fs
@@ -120,7 +121,7 @@ pub record Shown (s : List ℕ) (b : Book) (fs : List Finding) (after : List ℕ
 
 -- THE SOUND ONE, of depth 1: nothing is found, and the buffer is as it was
 
-sound_answer : (drawn : Bool) → check_of (parse (bytes drawn 1)) (length buffer) (length work) ≡ checked.Found 0
+sound_answer : (drawn : Bool) → check_of (parse (bytes drawn 1)) (length buffer) (length work) ≡ Ok (checked.Found 0)
 unfolding buffer work book work_short count_in
 sound_answer drawn = answer_is (bytes drawn 1) (book drawn 0 2 1 1 1 1) [] 20 6 (accepted drawn 1) (no_findings drawn)
 
@@ -145,7 +146,7 @@ sound_shown drawn = (
 unfoldable pub buffer_of_42 : List ℕ
 buffer_of_42 = 42 ∷ 0 ∷ 0 ∷ 0 ∷ 0 ∷ 0 ∷ 0 ∷ 0 ∷ 2 ∷ 0 ∷ 0 ∷ 0 ∷ 0 ∷ 0 ∷ 0 ∷ 0 ∷ 0 ∷ 9 ∷ 9 ∷ 9 ∷ []
 
-unsound_answer : (drawn : Bool) → check_of (parse (bytes drawn 0)) (length buffer) (length work) ≡ checked.Found 1
+unsound_answer : (drawn : Bool) → check_of (parse (bytes drawn 0)) (length buffer) (length work) ≡ Ok (checked.Found 1)
 unfolding buffer work book work_short count_in
 unsound_answer drawn = answer_is (bytes drawn 0) (book drawn 0 2 1 0 1 1) (finding 42 2 0 ∷ []) 20 6 (accepted drawn 0) (one_finding drawn)
 

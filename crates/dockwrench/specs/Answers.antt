@@ -1,18 +1,18 @@
 -- What the main call and the two questions answer, and what the main call leaves in the two areas it is lent (document 01, "The entry").
--- The enums Checked, Ancestor and Availability are those that src/lib.rt declares.
-use Rattle.std.specs.Prelude.{ℕ, ◌+◌, ◌*◌, ◌/◌, ◌%◌, ◌^◌, Bool, true, false, cond, List, length, replicate, ltb}
-use Rattle.std.proofs.Math.Option.{Option, none, some}
+-- Checked and Availability are those that src/lib.rt declares.
+use Rattle.std.specs.Prelude.{ℕ, ◌+◌, ◌*◌, ◌/◌, ◌%◌, ◌^◌, Bool, true, false, cond, List, length, replicate, ltb, None, Option, Some, Result, Ok, Err}
 use Rattle.findings.specs.Findings.{put}
 use Rattle.book.specs.Book.{Book}
 use Rattle.book.specs.KeyMaps.{parents_of}
-use Rattle.book.specs.Refusals.{Outcome}
+use Rattle.book.specs.declared.refusal.Refusal.{Refusal}
+use Rattle.book.specs.Refusals.{Outcome, refusal}
+use Rattle.parents.specs.declared.Root.{Root}
+use Rattle.parents.specs.Chains.{root_answer}
 use Rattle.parents.specs.Roots.{root_of}
 use Rattle.subvolumes.specs.SubvolumeStates.{is_unavailable}
 use Rattle.rules.specs.Rules.{findings_of}
 use Rattle.dockwrench.specs.declared.Checked.{Checked}
 use Rattle.dockwrench.specs.declared.Checked.TheVariants as checked
-use Rattle.dockwrench.specs.declared.Ancestor.{Ancestor}
-use Rattle.dockwrench.specs.declared.Ancestor.TheVariants as ancestor
 use Rattle.dockwrench.specs.declared.Availability.{Availability}
 use Rattle.dockwrench.specs.declared.Availability.TheVariants as availability
 
@@ -27,13 +27,13 @@ unfoldable pub count_in : ℕ → ℕ → Checked
 count_in room count = cond (ltb room (17 * count)) (checked.NoRoom count) (checked.Found count)
 
 -- 9 for a work area of `words` words that is short, or the count
-unfoldable pub check_book : Book → ℕ → ℕ → Checked
-check_book b room words = cond (work_short b words) (checked.Refused 9 0) (count_in room (length (findings_of b)))
+unfoldable pub check_book : Book → ℕ → ℕ → Result Checked Refusal
+check_book b room words = cond (work_short b words) (Err (refusal 9 0)) (Ok (count_in room (length (findings_of b))))
 
 -- the answer of the main call
-unfoldable pub check_of : Outcome → ℕ → ℕ → Checked
+unfoldable pub check_of : Outcome → ℕ → ℕ → Result Checked Refusal
 check_of (Outcome.accepted b) room words = check_book b room words
-check_of (Outcome.refused number place) room words = checked.Refused number place
+check_of (Outcome.refused number place) room words = Err (refusal number place)
 
 -- the buffer of an accepted book: untouched where the work area is short, else "the whole findings that fit, from the first, other bytes untouched"
 unfoldable pub book_buffer : Book → ℕ → List ℕ → List ℕ
@@ -59,15 +59,11 @@ work_after (Outcome.refused number place) work = work
 
 -- THE QUESTIONS
 
--- "The ancestor question answers the root and the number of parent links followed, or 11 with zeros"
-unfoldable pub ancestor_by : Option (ℕ × ℕ) → Ancestor
-ancestor_by none = ancestor.NoRoot
-ancestor_by (some root) = ancestor.Root root.0 root.1
-
--- the answer of the ancestor question: "refuse by 1 to 8 with the same place"; "The questions give" 12 "too", and so 13
-unfoldable pub ancestor_of : Outcome → ℕ → Ancestor
-ancestor_of (Outcome.accepted b) id = ancestor_by (root_of (parents_of b) id)
-ancestor_of (Outcome.refused number place) id = ancestor.Refused number place
+-- "The ancestor question answers the root and the number of parent links followed, or 11 with zeros"; "refuse by 1 to 8 with the same
+-- place"; "The questions give" 12 "too", and so 13
+unfoldable pub ancestor_of : Outcome → ℕ → Result (Option Root) Refusal
+ancestor_of (Outcome.accepted b) id = Ok (root_answer (root_of (parents_of b) id))
+ancestor_of (Outcome.refused number place) id = Err (refusal number place)
 
 -- "The availability question answers whether the id is in the set that `subvolume_states` returns"
 unfoldable pub availability_by : Bool → Availability
@@ -75,9 +71,9 @@ availability_by true = availability.Unavailable
 availability_by false = availability.Available
 
 -- the answer of the availability question, likewise
-unfoldable pub availability_of : Outcome → ℕ → Availability
-availability_of (Outcome.accepted b) id = availability_by (is_unavailable id b.keys)
-availability_of (Outcome.refused number place) id = availability.Refused number place
+unfoldable pub availability_of : Outcome → ℕ → Result Availability Refusal
+availability_of (Outcome.accepted b) id = Ok (availability_by (is_unavailable id b.keys))
+availability_of (Outcome.refused number place) id = Err (refusal number place)
 
 -- DOCUMENT 01'S NUMBERS
 
@@ -88,22 +84,22 @@ pub record Answer : Type 0 where
   pub count : ℕ
 
 -- of the main call: "Answer 0: place 0, count of findings"; "Refusal 10 returns the full count"; "Refusals 1 to 9: count 0"
-unfoldable pub checked_answer : Checked → Answer
-checked_answer (checked.Found count) = record { number = 0; place = 0; count = count }
-checked_answer (checked.NoRoom count) = record { number = 10; place = 0; count = count }
-checked_answer (checked.Refused number place) = record { number = number; place = place; count = 0 }
+unfoldable pub checked_answer : Result Checked Refusal → Answer
+checked_answer (Ok (checked.Found count)) = record { number = 0; place = 0; count = count }
+checked_answer (Ok (checked.NoRoom count)) = record { number = 10; place = 0; count = count }
+checked_answer (Err r) = record { number = r.number; place = r.place; count = 0 }
 
 -- of the ancestor question: "or 11 with zeros"
-unfoldable pub ancestor_answer : Ancestor → Answer
-ancestor_answer (ancestor.Root root links) = record { number = 0; place = links; count = root }
-ancestor_answer ancestor.NoRoot = record { number = 11; place = 0; count = 0 }
-ancestor_answer (ancestor.Refused number place) = record { number = number; place = place; count = 0 }
+unfoldable pub ancestor_answer : Result (Option Root) Refusal → Answer
+ancestor_answer (Ok (Some found)) = record { number = 0; place = found.links; count = found.root }
+ancestor_answer (Ok None) = record { number = 11; place = 0; count = 0 }
+ancestor_answer (Err r) = record { number = r.number; place = r.place; count = 0 }
 
 -- of the availability question: 1 for an id in the set
-unfoldable pub availability_answer : Availability → Answer
-availability_answer availability.Unavailable = record { number = 0; place = 0; count = 1 }
-availability_answer availability.Available = record { number = 0; place = 0; count = 0 }
-availability_answer (availability.Refused number place) = record { number = number; place = place; count = 0 }
+unfoldable pub availability_answer : Result Availability Refusal → Answer
+availability_answer (Ok availability.Unavailable) = record { number = 0; place = 0; count = 1 }
+availability_answer (Ok availability.Available) = record { number = 0; place = 0; count = 0 }
+availability_answer (Err r) = record { number = r.number; place = r.place; count = 0 }
 
 -- an answer for C as one number: 8 bits, 24 bits, 32 bits
 unfoldable pub packed : Answer → ℕ

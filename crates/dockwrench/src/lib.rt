@@ -2,13 +2,13 @@
 #![tactic(auto)]
 
 ghost use Rattle.std.specs.Prelude.{◌≡◌, ◌+◌, ◌*◌, ◌^◌, ◌<◌, ◌≤◌, length};
-ghost use Rattle.findings.specs.Findings.{sink, Found};
+ghost use Rattle.findings.specs.Findings.{put, Encodable};
 ghost use Rattle.rules.specs.Rules.{findings_of};
 ghost use Rattle.book.specs.Book.{book_of};
 ghost use Rattle.book.specs.KeyMaps.{parents_of};
 ghost use Rattle.book.specs.Refusals.{parse};
-ghost use Rattle.book.specs.Walk.{Opened};
 ghost use Rattle.parents.specs.Roots.{root_of};
+ghost use Rattle.parents.specs.Chains.{root_answer};
 ghost use Rattle.subvolumes.specs.SubvolumeStates.{is_unavailable};
 ghost use Rattle.dockwrench.specs.Steps.{asked_source};
 ghost use Rattle.dockwrench.specs.Answers.{
@@ -21,7 +21,6 @@ ghost use Rattle.dockwrench.specs.Answers.{
   buffer_after,
   work_after,
   checked_answer,
-  ancestor_by,
   ancestor_of,
   availability_by,
   availability_of,
@@ -32,24 +31,17 @@ ghost use Rattle.dockwrench.specs.Answers.{
 };
 ghost use Rattle.dockwrench.specs.Claim.{Claim};
 
-use book::{Header, Places, Scanned};
-use parents::{Root, Source};
+use book::open::Book;
+use book::refusal::{Reason, Refusal};
+use findings::report::Report;
+pub use parents::Root;
+use parents::Source;
 
-// What the main call answers: the count of findings, all of which are in the buffer; the full count where not all fit; or a refusal's
-// number and place.
+// What the main call answers over a book: the count of findings, all of which are in the buffer; or the full count where not all fit.
 #[derive(Clone, Copy)]
 pub enum Checked {
     Found(usize),
     NoRoom(usize),
-    Refused(usize, usize),
-}
-
-// What the ancestor question answers.
-#[derive(Clone, Copy)]
-pub enum Ancestor {
-    Root { root: u32, links: u32 },
-    NoRoot,
-    Refused(usize, usize),
 }
 
 // What the availability question answers.
@@ -57,37 +49,26 @@ pub enum Ancestor {
 pub enum Availability {
     Unavailable,
     Available,
-    Refused(usize, usize),
-}
-
-// Every word zero.
-fn zero_words(work: &mut [u64])
-    ensures { work.new ≡ zeros (length work.old) }
-{
-    let mut i: usize = 0;
-    while i < work.len() {
-        work[i] = 0;
-        i += 1;
-    }
 }
 
 // All rules over an accepted book and a work area that is long enough, which is zeroed then.
-fn check_all(
-    book: &[u8],
-    h: Header,
-    at: Places,
-    findings: &mut [u8],
-    counts: &mut [u64],
-    work: &mut [u64],
-) -> usize
-    requires { Opened book.now h at × (2 * h.keys ≤ length work.old) }
-    ensures found { Found (sink findings.old counts.old) (findings_of (book_of book.now)) result (sink findings.new counts.new) }
+fn check_all(book: Book<'_>, findings: &mut [u8], work: &mut [u64]) -> usize
+    requires { 2 * book.header.keys ≤ length work.old }
+    ensures count { result ≡ length (findings_of (book_of book.entry.bytes.now)) }
+    ensures buffer { findings.new ≡ put findings.old (findings_of (book_of book.entry.bytes.now)) }
+    ensures whole { Encodable (findings_of (book_of book.entry.bytes.now)) }
     ensures work { work.new ≡ zeros (length work.old) }
     ensures few { result < 2 ^ 32 }
 {
-    let count = judge::judge(book, h, at, findings, counts, work);
-    zero_words(work);
-    count
+    let mut counts = [0u64; 0];
+    let mut report = Report {
+        buffer: findings,
+        counts: &mut counts,
+        found: 0,
+    };
+    judge::judge(book, work, &mut report);
+    work.fill(0);
+    report.found
 }
 
 // The count of findings, and whether a buffer holds them all.
@@ -102,42 +83,38 @@ fn count_in(room: usize, count: usize) -> Checked
 }
 
 // The main call over an accepted book.
-fn check_book(book: &[u8], h: Header, at: Places, findings: &mut [u8], work: &mut [u64]) -> Checked
-    requires { Opened book.now h at }
-    ensures answer { result ≡ check_book (book_of book.now) (length findings.old) (length work.old) }
-    ensures buffer { findings.new ≡ book_buffer (book_of book.now) (length work.old) findings.old }
-    ensures work { work.new ≡ book_work (book_of book.now) work.old }
+fn check_book(book: Book<'_>, findings: &mut [u8], work: &mut [u64]) -> Result<Checked, Refusal>
+    ensures answer { result ≡ check_book (book_of book.entry.bytes.now) (length findings.old) (length work.old) }
+    ensures buffer { findings.new ≡ book_buffer (book_of book.entry.bytes.now) (length work.old) findings.old }
+    ensures work { work.new ≡ book_work (book_of book.entry.bytes.now) work.old }
     ensures few { (checked_answer result).count < 2 ^ 32 }
-    ensures claim { Claim book.now (checked_answer result) findings.new }
+    ensures claim { Claim book.entry.bytes.now (checked_answer result) findings.new }
 {
-    if work.len() < 2 * (h.keys as usize) {
-        return Checked::Refused(9, 0);
+    if work.len() < 2 * (book.header.keys as usize) {
+        return Err(Reason::WorkShort.at(0));
     }
     let room = findings.len();
-    let mut counts = [0u64; 0];
-    let count = check_all(book, h, at, findings, &mut counts, work);
-    count_in(room, count)
+    let count = check_all(book, findings, work);
+    Ok(count_in(room, count))
 }
 
 // The main call.
-pub fn check(book: &[u8], findings: &mut [u8], work: &mut [u64]) -> Checked
+pub fn check(book: &[u8], findings: &mut [u8], work: &mut [u64]) -> Result<Checked, Refusal>
     ensures answer { result ≡ check_of (parse book.now) (length findings.old) (length work.old) }
     ensures buffer { findings.new ≡ buffer_after (parse book.now) (length work.old) findings.old }
     ensures work { work.new ≡ work_after (parse book.now) work.old }
     ensures few { (checked_answer result).count < 2 ^ 32 }
     ensures claim { Claim book.now (checked_answer result) findings.new }
 {
-    let s = scan::scan(book);
-    match s {
-        Scanned::Accepted { header, places } => check_book(book, header, places, findings, work),
-        Scanned::Refused(number, place) => Checked::Refused(number, place),
-    }
+    check_book(scan::scan(book)?, findings, work)
 }
 
 // Where a question finds the parents: it has no work area, and walks over the keys of a book with the drawn mark.
-fn asked_source(h: Header, at: Places) -> Source
-    ensures { result ≡ asked_source h at }
+fn asked_source(book: Book<'_>) -> Source
+    ensures { result ≡ asked_source book.entry.header book.entry.places }
 {
+    let h = book.header;
+    let at = book.places;
     if h.drawn {
         return Source::Keys(at.keys, h.keys as usize);
     }
@@ -145,50 +122,35 @@ fn asked_source(h: Header, at: Places) -> Source
 }
 
 // The root above an id, in an accepted book.
-fn root_above(book: &[u8], h: Header, at: Places, id: u32) -> Ancestor
-    requires { Opened book.now h at }
-    ensures { result ≡ ancestor_by (root_of (parents_of (book_of book.now)) id) }
+fn root_above(book: Book<'_>, id: u32) -> Option<Root>
+    ensures { result ≡ root_answer (root_of (parents_of (book_of book.entry.bytes.now)) id) }
 {
-    let source = asked_source(h, at);
     let none = [0u64; 0];
-    let found = climb::root_above(book, &none, source, id);
-    match found {
-        Root::At { root, links } => Ancestor::Root { root, links },
-        Root::NoRoot => Ancestor::NoRoot,
-    }
+    climb::root_above(book.bytes, &none, asked_source(book), id)
 }
 
-// The ancestor question.
-pub fn ask_ancestor(book: &[u8], id: u32) -> Ancestor
+// The ancestor question: a root, or none within 1,024 links.
+pub fn ask_ancestor(book: &[u8], id: u32) -> Result<Option<Root>, Refusal>
     ensures { result ≡ ancestor_of (parse book.now) id }
 {
-    let s = scan::scan(book);
-    match s {
-        Scanned::Accepted { header, places } => root_above(book, header, places, id),
-        Scanned::Refused(number, place) => Ancestor::Refused(number, place),
-    }
+    Ok(root_above(scan::scan(book)?, id))
 }
 
 // Whether an id is in the set of unavailable subvolumes, in an accepted book.
-fn is_available(book: &[u8], h: Header, at: Places, id: u32) -> Availability
-    requires { Opened book.now h at }
-    ensures { result ≡ availability_by (is_unavailable id (book_of book.now).keys) }
+fn is_available(book: Book<'_>, id: u32) -> Availability
+    ensures { result ≡ availability_by (is_unavailable id (book_of book.entry.bytes.now).keys) }
 {
-    if subvolumes::is_unavailable(book, h, at, id) {
+    if subvolumes::is_unavailable(book, id) {
         return Availability::Unavailable;
     }
     Availability::Available
 }
 
 // The availability question.
-pub fn ask_available(book: &[u8], id: u32) -> Availability
+pub fn ask_available(book: &[u8], id: u32) -> Result<Availability, Refusal>
     ensures { result ≡ availability_of (parse book.now) id }
 {
-    let s = scan::scan(book);
-    match s {
-        Scanned::Accepted { header, places } => is_available(book, header, places, id),
-        Scanned::Refused(number, place) => Availability::Refused(number, place),
-    }
+    Ok(is_available(scan::scan(book)?, id))
 }
 
 // An answer as one number: 8 bits, 24 bits, 32 bits.
@@ -208,11 +170,10 @@ pub fn dockwrench_check(book: &[u8], findings: &mut [u8], work: &mut [u64]) -> u
     ensures work { work.new ≡ work_after (parse book.now) work.old }
     ensures claim { Claim book.now (unpacked result) findings.new }
 {
-    let answer = check(book, findings, work);
-    match answer {
-        Checked::Found(count) => pack(0, 0, count),
-        Checked::NoRoom(count) => pack(10, 0, count),
-        Checked::Refused(number, place) => pack(number, place, 0),
+    match check(book, findings, work) {
+        Ok(Checked::Found(count)) => pack(0, 0, count),
+        Ok(Checked::NoRoom(count)) => pack(Reason::FindingsExceed as usize, 0, count),
+        Err(refusal) => pack(refusal.number, refusal.place, 0),
     }
 }
 
@@ -221,11 +182,10 @@ pub fn dockwrench_ancestor(book: &[u8], id: u32) -> u64
     ensures answer { result ≡ packed (ancestor_answer (ancestor_of (parse book.now) id)) }
     ensures apart { unpacked result ≡ ancestor_answer (ancestor_of (parse book.now) id) }
 {
-    let answer = ask_ancestor(book, id);
-    match answer {
-        Ancestor::Root { root, links } => pack(0, links as usize, root as usize),
-        Ancestor::NoRoot => pack(11, 0, 0),
-        Ancestor::Refused(number, place) => pack(number, place, 0),
+    match ask_ancestor(book, id) {
+        Ok(Some(found)) => pack(0, found.links as usize, found.root as usize),
+        Ok(None) => pack(Reason::NoRoot as usize, 0, 0),
+        Err(refusal) => pack(refusal.number, refusal.place, 0),
     }
 }
 
@@ -234,10 +194,9 @@ pub fn dockwrench_unavailable(book: &[u8], id: u32) -> u64
     ensures answer { result ≡ packed (availability_answer (availability_of (parse book.now) id)) }
     ensures apart { unpacked result ≡ availability_answer (availability_of (parse book.now) id) }
 {
-    let answer = ask_available(book, id);
-    match answer {
-        Availability::Unavailable => pack(0, 0, 1),
-        Availability::Available => pack(0, 0, 0),
-        Availability::Refused(number, place) => pack(number, place, 0),
+    match ask_available(book, id) {
+        Ok(Availability::Unavailable) => pack(0, 0, 1),
+        Ok(Availability::Available) => pack(0, 0, 0),
+        Err(refusal) => pack(refusal.number, refusal.place, 0),
     }
 }

@@ -1,4 +1,5 @@
 -- The pairs of all keys, sorted, are the maps of the snapshots of 8, 24 and 40 value bytes or more, and that of the tree records.
+use Rattle.std.specs.Prelude.{Some}
 use Prim.Native.Nat.{ℕ, ◌^◌, ◌≤◌, ◌<◌}
 use mathlib.Core.Path.{◌≡◌, refl, sym, ap, ap₂, ◌∙◌}
 use mathlib.Core.Bool.{Bool, true, false, true≢false, cond, ◌&&◌, ◌||◌}
@@ -8,7 +9,6 @@ use lib.ListN.{length}
 use lib.Dec.{eqb, leb, lit<}
 use borrow.Author.Tests.{eqb-true, ne_eqb, leb-true, leb-false}
 use Rattle.findings.specs.Findings.{keep}
-use Rattle.pairs.specs.declared.MaybeU64.TheVariants.{Is}
 use Rattle.pairs.proofs.Order.{both_true}
 use Rattle.book.specs.Maps.{lookup}
 use Rattle.book.specs.KeyMaps.{map_of}
@@ -170,5 +170,5 @@ module _ {s : List ℕ} {n p : ℕ} {xs : List ℕ} (a : AllPairs link_pair s n 
   pub latest_law : {A : Type 0} (class : ℕ) (word : Bkey → A) → lookup x (map_of (holds 9 22 (bytes_of class)) id_of word (keys_from s n p)) ≡ word_at word s (latest class x xs)
   latest_law class word = key_law (holds 9 22 (bytes_of class)) id_of word s x n p a.small a.fit ∙ ap (word_at word s) (sym (latest_key class))
 
-  pub latest_held : (class q : ℕ) → latest class x xs ≡ Is q → Held (holds 9 22 (bytes_of class)) id_of s x q
+  pub latest_held : (class q : ℕ) → latest class x xs ≡ Some q → Held (holds 9 22 (bytes_of class)) id_of s x q
   latest_held class q e = key_held (holds 9 22 (bytes_of class)) id_of s x n p a.fit q (sym (latest_key class) ∙ e)

@@ -1,11 +1,10 @@
 -- The drawn map: what it has for an id, by the pairs in the work words and by a walk over the keys.
+use Rattle.std.specs.Prelude.{None, Option, Some}
 use Prim.Native.Nat.{ℕ, ◌≤◌}
 use mathlib.Core.Path.{◌≡◌, refl}
 use mathlib.Core.List.{List}
 use native.Mathlib.Omega.{arith}
 use lib.ListN.{length}
-use Rattle.pairs.specs.declared.MaybeU64.{MaybeU64}
-use Rattle.pairs.specs.declared.MaybeU64.TheVariants.{Is, Absent}
 use Rattle.book.specs.Maps.{lookup}
 use Rattle.book.specs.KeyMaps.{drawn_from}
 use Rattle.book.specs.Book.{keys_from}
@@ -19,9 +18,9 @@ use Rattle.drawn.proofs.Classes.{bytes_of, latest_law, latest_held}
 use Rattle.drawn.proofs.Scan.{held_snapshot}
 
 -- a place of which it is known that a snapshot stands there, if it is one
-placed : (s : List ℕ) (m : MaybeU64) → ((q : ℕ) → m ≡ Is q → SnapshotAt s (Is q)) → SnapshotAt s m
-placed s Absent h = unfold SnapshotAt in tt
-placed s (Is q) h = h q refl
+placed : (s : List ℕ) (m : Option ℕ) → ((q : ℕ) → m ≡ Some q → SnapshotAt s (Some q)) → SnapshotAt s m
+placed s None h = unfold SnapshotAt in tt
+placed s (Some q) h = h q refl
 
 -- by the pairs
 module _ {s : List ℕ} {n p : ℕ} {xs : List ℕ} (a : AllPairs link_pair s n p xs) (x : ℕ) where

@@ -2,4 +2,3 @@ pub mod Classes
 pub mod Scan
 pub mod Drawn
 pub mod Alone
-pub mod Pairs

@@ -2,34 +2,19 @@
 // id, by the length that its value has at least; or that snapshot by a walk over the keys.
 #![tactic(auto)]
 
-ghost use Rattle.std.specs.Prelude.{◌≡◌, [], ◌∷◌, ◌++◌, true, cond, ◌&&◌, ◌+◌, ◌*◌, ◌≤◌, ◌<◌, length, eqb, leb};
-ghost use Rattle.pairs.specs.declared.MaybeU64.TheVariants.{Is};
-ghost use Rattle.pairs.specs.Pairs.{pairs_of, Sorted};
+ghost use Rattle.std.specs.Prelude.{◌≡◌, Some, true, cond, ◌&&◌, ◌+◌, ◌*◌, ◌^◌, ◌≤◌, ◌<◌, length, eqb};
+ghost use Rattle.pairs.specs.Pairs.{pairs_of};
 ghost use Rattle.book.specs.Words.{holds, parent_word, id_of};
-ghost use Rattle.book.specs.Walk.{KeysFit, Opened, maybe_u32};
-ghost use Rattle.walk.specs.Keys.{key_at, AtKey, gather};
-ghost use Rattle.maps.specs.Places.{place_pair};
+ghost use Rattle.book.specs.Turns.{held};
+ghost use Rattle.walk.specs.Keys.{gather};
+ghost use Rattle.walk.specs.Gives.{pair_in};
 ghost use Rattle.maps.specs.LastKeys.{last_key, later, word_at};
 ghost use Rattle.drawn.specs.Classes.{class_of, link_pair, latest, Alone, SnapshotAt};
 
-use book::{Header, KeyFront, MaybeU32, Places};
-use pairs::MaybeU64;
-
-// The id of the key at byte p: the low 32 bits of its offset.
-pub fn key_id(book: &[u8], p: usize, f: KeyFront) -> u32
-    requires { AtKey book.now p f }
-    ensures { result ≡ id_of (key_at book.now p) }
-{
-    let offset = walk::key_offset(book, p, f);
-    (offset % 0x1_0000_0000) as u32
-}
-
-// Whether a key is a snapshot with a parent word, by its front.
-pub fn has_parent(f: KeyFront) -> bool
-    ensures { result ≡ (eqb f.btree 9 && eqb f.key_type 22) && leb 8 f.len }
-{
-    ((f.btree == 9) & (f.key_type == 22)) & (8 <= f.len)
-}
+use book::names::{btree_id, key_type};
+use book::open::{Book, Key, Keys};
+use pairs::SortedPairs;
+use walk::put::put_pairs;
 
 // The class of a snapshot with so many value bytes.
 fn class_of(bytes: usize) -> u64
@@ -45,102 +30,81 @@ fn class_of(bytes: usize) -> u64
     1
 }
 
-// Puts the pair of the key at byte p in a map behind the first n.
-fn put_place(book: &[u8], p: usize, f: KeyFront, which: u64, work: &mut [u64], n: usize)
-    requires { AtKey book.now p f × (which < 4) × (2 * n + 2 ≤ length work.old) }
-    ensures { pairs_of work.new (n + 1) ≡ pairs_of work.old n ++ (place_pair which (id_of (key_at book.now p)) p ∷ []) }
+// The pair of a key and its place in a map.
+fn place_pair(key: Key<'_>, which: u64) -> (u64, u64)
+    requires { which < 4 }
+    ensures { (result.0 ≡ id_of (held key.entry)) × (result.1 ≡ which * 2 ^ 32 + key.entry.at) }
 {
-    let id = key_id(book, p, f);
-    pairs::put_pair(work, n, id as u64, which * 0x1_0000_0000 + p as u64);
+    (key.id() as u64, which * 0x1_0000_0000 + key.at as u64)
 }
 
-// Puts the pair that the key at byte p gives behind the first n, and returns their number with it.
-fn put_link(book: &[u8], p: usize, f: KeyFront, work: &mut [u64], n: usize) -> usize
-    requires { AtKey book.now p f × (2 * n + 2 ≤ length work.old) }
-    ensures put { pairs_of work.new result ≡ pairs_of work.old n ++ link_pair p (key_at book.now p) }
-    ensures few { result ≤ n + 1 }
+// The pair of a key, if it is a tree record or a snapshot with a parent word.
+fn link_pair(key: Key<'_>) -> Option<(u64, u64)>
+    ensures { pair_in result ≡ link_pair key.entry.at (held key.entry) }
 {
-    if ((f.btree == 15) & (f.key_type == 31)) & (8 <= f.len) {
-        put_place(book, p, f, 0, work, n);
-        return n + 1;
+    if key.holds(btree_id::SNAPSHOT_TREES, key_type::SNAPSHOT_TREE, 8) {
+        return Some(place_pair(key, 0));
     }
-    if has_parent(f) {
-        let class = class_of(f.len);
-        put_place(book, p, f, class, work, n);
-        return n + 1;
+    if key.holds(btree_id::SNAPSHOTS, key_type::SNAPSHOT, 8) {
+        return Some(place_pair(key, class_of(key.front.len)));
     }
-    n
+    None
 }
 
 // Puts a pair for each tree record and each snapshot, in key order, and returns their number.
-pub fn put_links(book: &[u8], h: Header, at: Places, work: &mut [u64]) -> usize
-    requires { Opened book.now h at × (2 * h.keys ≤ length work.old) }
-    ensures put { pairs_of work.new result ≡ gather link_pair book.now h.keys at.keys }
-    ensures few { result ≤ h.keys }
+pub fn put_links(book: Book<'_>, work: &mut [u64]) -> usize
+    requires { 2 * book.header.keys ≤ length work.old }
+    ensures put { pairs_of work.new result ≡ gather link_pair book.entry.bytes.now book.entry.header.keys book.entry.places.keys }
+    ensures few { result ≤ book.entry.header.keys }
 {
-    let mut left = h.keys;
-    let mut p = at.keys;
-    let mut n: usize = 0;
-    while 0 < left {
-        let f = book::key_front(book, p);
-        n = put_link(book, p, f, work, n);
-        p = p + 28 + f.len;
-        left -= 1;
-    }
-    n
+    put_pairs(book, link_pair, work)
 }
 
 // The later of two places.
-fn later_place(a: MaybeU64, b: MaybeU64) -> MaybeU64
+fn later_place(a: Option<u64>, b: Option<u64>) -> Option<u64>
     ensures { result ≡ later a b }
 {
-    let MaybeU64::Is(q) = a else {
-        return b;
-    };
-    let MaybeU64::Is(r) = b else {
-        return a;
-    };
-    if q <= r {
-        return b;
+    match (a, b) {
+        (Some(q), Some(r)) => Some(q.max(r)),
+        (Some(q), None) => Some(q),
+        (None, other) => other,
     }
-    a
 }
 
-// The last place of an id among the snapshots of a class and those above it, of the first n pairs, which are sorted: class after class, from the
-// place `near`, where the pairs of the id end.
-fn find_each(w: &[u64], n: usize, near: usize, class: u64, number: u64) -> MaybeU64
-    requires { (2 * n ≤ length w.now) × Sorted (pairs_of w.now n) × (1 ≤ class) × (class ≤ 3) × (near ≤ n) }
-    ensures { result ≡ latest class number (pairs_of w.now n) }
+// The last place of an id among the snapshots of a class and those above it: class after class, from the place `near`, where the pairs of the id end.
+fn find_each(pairs: SortedPairs<'_>, near: usize, class: u64, number: u64) -> Option<u64>
+    requires { (1 ≤ class) × (class ≤ 3) × (near ≤ pairs.count) }
+    ensures { result ≡ latest class number (pairs_of pairs.entry.words.now pairs.entry.count) }
 {
-    let long = maps::find_place_near(w, n, near, 3, number);
+    let long = maps::find_place_near(pairs, near, 3, number);
     if class == 3 {
         return long;
     }
-    let middle = maps::find_place_near(w, n, near, 2, number);
+    let middle = maps::find_place_near(pairs, near, 2, number);
     let upper = later_place(middle, long);
     if class == 2 {
         return upper;
     }
-    let short = maps::find_place_near(w, n, near, 1, number);
+    let short = maps::find_place_near(pairs, near, 1, number);
     later_place(short, upper)
 }
 
-// Whether the pair before place r, of the first n, is of a class or one above it, and the one before that is not.
-fn is_alone(w: &[u64], n: usize, r: usize, class: u64, number: u64) -> bool
-    requires { (2 * n ≤ length w.now) × (r ≤ n) × (class ≤ 3) }
-    ensures { result ≡ true → Alone class number w.now r }
+// Whether the pair before place r is of a class or one above it, and the one before that is not.
+fn is_alone(pairs: SortedPairs<'_>, r: usize, class: u64, number: u64) -> bool
+    requires { (r ≤ pairs.count) × (class ≤ 3) }
+    ensures { result ≡ true → Alone class number pairs.entry.words.now r }
 {
     let low = class * 0x1_0000_0000;
     if r == 0 {
         return false;
     }
-    if pairs::below(w, r - 1, number, low) {
+    if pairs::below(pairs.words, r - 1, number, low) {
         return false;
     }
     if r == 1 {
         return true;
     }
-    pairs::below(w, r - 2, number, low)
+    pairs::below(pairs.words, r - 2, number, low)
 }
 
 // What a search from a place on finds: the place of a key, and where among the pairs it ended. Of the latter only its bound is promised: it is a place
@@ -148,67 +112,54 @@ fn is_alone(w: &[u64], n: usize, r: usize, class: u64, number: u64) -> bool
 #[derive(Clone, Copy)]
 pub struct PlaceAt {
     pub at: usize,
-    pub place: MaybeU64,
+    pub place: Option<u64>,
 }
 
-// The last place of an id among the snapshots of a class and those above it, of the first n pairs, which are sorted: where the id has one
-// such pair only, one search finds it. It starts from pair `near`, such as that of the id before in a chain; from n, it is among all pairs.
-pub fn find_snapshot(w: &[u64], n: usize, near: usize, class: u64, id: u32) -> PlaceAt
-    requires { (2 * n ≤ length w.now) × Sorted (pairs_of w.now n) × (1 ≤ class) × (class ≤ 3) × (near ≤ n) }
-    ensures { (result.place ≡ latest class id (pairs_of w.now n)) × (result.at ≤ n) }
+// The last place of an id among the snapshots of a class and those above it: where the id has one such pair only, one search finds it. It starts from
+// pair `near`, such as that of the id before in a chain; from the count, it is among all pairs.
+pub fn find_snapshot(pairs: SortedPairs<'_>, near: usize, class: u64, id: u32) -> PlaceAt
+    requires { (1 ≤ class) × (class ≤ 3) × (near ≤ pairs.count) }
+    ensures place { result.place ≡ latest class id (pairs_of pairs.entry.words.now pairs.entry.count) }
+    ensures at { result.at ≤ pairs.entry.count }
 {
     let number = id as u64;
-    let at = pairs::lower_bound_near(w, n, near, number, 0x4_0000_0000);
-    if is_alone(w, n, at, class, number) {
-        let p = 2 * at - 1;
-        let place = MaybeU64::Is(w[p] % 0x1_0000_0000);
-        return PlaceAt { at, place };
-    }
-    let place = find_each(w, n, at, class, number);
+    let at = pairs.lower_bound_near(near, number, 0x4_0000_0000);
+    let place = if is_alone(pairs, at, class, number) {
+        Some(pairs.second(at - 1) % 0x1_0000_0000)
+    } else {
+        find_each(pairs, at, class, number)
+    };
     PlaceAt { at, place }
 }
 
-// The place of the key at byte p, if it is a snapshot of 8 value bytes or more with this id, else the place before.
-fn last_with(book: &[u8], p: usize, f: KeyFront, id: u32, last: MaybeU64) -> MaybeU64
-    requires { AtKey book.now p f }
-    ensures { result ≡ cond (holds 9 22 8 (key_at book.now p) && eqb (id_of (key_at book.now p)) id) (Is p) last }
+// The place of a key, if it is a snapshot of 8 value bytes or more with this id, else the place before.
+fn last_with(key: Key<'_>, id: u32, last: Option<u64>) -> Option<u64>
+    ensures { result ≡ cond (holds 9 22 8 (held key.entry) && eqb (id_of (held key.entry)) id) (Some key.entry.at) last }
 {
-    if has_parent(f) {
-        if key_id(book, p, f) == id {
-            return MaybeU64::Is(p as u64);
-        }
+    if key.holds(btree_id::SNAPSHOTS, key_type::SNAPSHOT, 8) && key.id() == id {
+        return Some(key.at as u64);
     }
     last
 }
 
-// The place of the last snapshot of 8 value bytes or more with this id, by a walk over the `count` keys from byte `start` on.
-pub fn last_snapshot(book: &[u8], start: usize, count: usize, id: u32) -> MaybeU64
-    requires { (length book.now ≤ 1048576) × KeysFit book.now count start }
-    ensures { result ≡ last_key (holds 9 22 8) id_of book.now id count start }
+// The place of the last snapshot of 8 value bytes or more with this id, by a walk over the keys.
+pub fn last_snapshot(keys: Keys<'_>, id: u32) -> Option<u64>
+    ensures { result ≡ last_key (holds 9 22 8) id_of keys.entry.book.now id keys.entry.left keys.entry.at }
 {
-    let mut left = count;
-    let mut p = start;
-    let mut last = MaybeU64::Absent;
-    while 0 < left {
-        let f = book::key_front(book, p);
-        last = last_with(book, p, f, id, last);
-        p = p + 28 + f.len;
-        left -= 1;
+    let mut last = None;
+    for key in keys {
+        last = last_with(key, id, last);
     }
     last
 }
 
 // The parent word of the snapshot at a place.
-pub fn parent_at(book: &[u8], place: MaybeU64) -> MaybeU32
+pub fn parent_at(book: &[u8], place: Option<u64>) -> Option<u32>
     requires { SnapshotAt book.now place }
-    ensures { result ≡ maybe_u32 (word_at parent_word book.now place) }
+    ensures { result ≡ word_at parent_word book.now place }
 {
     match place {
-        MaybeU64::Is(q) => {
-            let p = q as usize;
-            let f = book::key_front(book, p);
-            MaybeU32::Is(walk::key_word(book, p, f, 4))
-        }
-        MaybeU64::Absent => MaybeU32::Absent,
+        Some(at) => Some(Key::read(book, at as usize).word(4)),
+        None => None,
     }
 }

@@ -5,20 +5,21 @@ use Rattle.bits.specs.Bits.{le_at}
 use Rattle.findings.specs.Findings.{Finding, finding, when, only, bytes_of}
 use Rattle.book.specs.Book.{Bkey, is}
 
--- whether a flat table of btrees and types, two numbers a row, has a row of these
-unfoldable pub has_row : List ℕ → ℕ → ℕ → Bool
+-- whether a table of btrees and types has a row of these
+unfoldable pub has_row : List (ℕ × ℕ) → ℕ → ℕ → Bool
 has_row [] btree key_type = false
-has_row (b ∷ []) btree key_type = false
-has_row (b ∷ t ∷ rows) btree key_type = (eqb b btree && eqb t key_type) || has_row rows btree key_type
+has_row (row ∷ rows) btree key_type = (eqb row.0 btree && eqb row.1 key_type) || has_row rows btree key_type
 
 -- SIZE_ZERO: the btrees and types whose keys have no size
-unfoldable pub size_zero : List ℕ
+unfoldable pub size_zero : List (ℕ × ℕ)
 size_zero =
-    1 ∷ 29 ∷ 2 ∷ 10 ∷ 3 ∷ 11 ∷ 8 ∷ 21 ∷ 10 ∷ 25 ∷ 13 ∷ 28 ∷ 14 ∷ 30 ∷ 15 ∷ 31 ∷ 17 ∷ 35 ∷ 20 ∷ 34 ∷ 9 ∷ 22 ∷ 19 ∷ 25 ∷ 12 ∷ 25 ∷ 4 ∷ 27 ∷ 18 ∷ 25 ∷ []
+    (1, 29) ∷ (2, 10) ∷ (3, 11) ∷ (8, 21) ∷ (10, 25) ∷ (13, 28) ∷ (14, 30) ∷ (15, 31) ∷ (17, 35) ∷ (20, 34) ∷ (9, 22) ∷ (19, 25) ∷ (12, 25) ∷ (4, 27)
+    ∷ (18, 25) ∷ []
 
 -- SNAPSHOT_ZERO: the btrees and types whose keys are in no snapshot
-unfoldable pub snapshot_zero : List ℕ
-snapshot_zero = 8 ∷ 21 ∷ 9 ∷ 22 ∷ 10 ∷ 25 ∷ 12 ∷ 25 ∷ 11 ∷ 25 ∷ 17 ∷ 35 ∷ 15 ∷ 31 ∷ 13 ∷ 28 ∷ 14 ∷ 30 ∷ 19 ∷ 25 ∷ 7 ∷ 16 ∷ []
+unfoldable pub snapshot_zero : List (ℕ × ℕ)
+snapshot_zero =
+    (8, 21) ∷ (9, 22) ∷ (10, 25) ∷ (12, 25) ∷ (11, 25) ∷ (17, 35) ∷ (15, 31) ∷ (13, 28) ∷ (14, 30) ∷ (19, 25) ∷ (7, 16) ∷ []
 
 -- the least number of value bytes of a backpointer, a snapshot and a subvolume; 0 for every other key
 unfoldable pub minimum_value : Bkey → ℕ

@@ -1,12 +1,37 @@
 -- The parts of the rule `check_key_fields` that a function each judges, and what the smaller functions return.
-use Rattle.std.specs.Prelude.{ℕ, ◌+◌, ◌*◌, ◌≡◌, Bool, not, ◌&&◌, List, ◌++◌, length, drop, eqb, ltb}
+use Rattle.std.specs.Prelude.{ℕ, ◌+◌, ◌*◌, ◌≢◌, Bool, not, ◌&&◌, ◌||◌, List, [], ◌∷◌, ◌++◌, length, drop, eqb, ltb, Option, None, Some}
+use Rattle.findings.specs.declared.kind.Kind.{Kind}
 use Rattle.findings.specs.Findings.{Finding, finding, when, only}
-use Rattle.book.specs.Book.{Bkey, is}
-use Rattle.fields.specs.CheckKeyFields.{has_row, size_zero, snapshot_zero, minimum_value, accounting_fields, some_nonzero, check_accounting_key, check_inode_v3_word, check_snapshot_pad, check_alloc_v4_value, check_position}
+use Rattle.findings.specs.Reports.{kind_number}
+use Rattle.book.specs.Book.{Bkey, bkey, is}
+use Rattle.fields.specs.declared.Judged.{Judged}
+use Rattle.fields.specs.declared.AccountingKind.{AccountingKind}
+use Rattle.fields.specs.declared.AccountingKind.TheVariants.{NrInodes, Replicas, DevDataType, Snapshot, Btree}
+use Rattle.fields.specs.CheckKeyFields.{has_row, size_zero, snapshot_zero, minimum_value, accounting_fields, some_nonzero, check_accounting_key, check_inode_v3_word, check_snapshot_pad, check_alloc_v4_value}
 
 -- a btree and a type as one number
 abbrev pub pair_of : ℕ → ℕ → ℕ
 pair_of btree key_type = btree * 256 + key_type
+
+-- the key that is judged
+abbrev pub judged : Judged → Bkey
+judged key = bkey key.head key.value.now
+
+-- the kinds of accounting keys by number: nr_inodes, replicas, dev_data_type, snapshot and btree
+abbrev pub accounting_number : AccountingKind → ℕ
+accounting_number NrInodes = 0
+accounting_number Replicas = 2
+accounting_number DevDataType = 3
+accounting_number Snapshot = 5
+accounting_number Btree = 6
+
+-- the number of nr_inodes, replicas or dev_data_type
+abbrev pub is_counted : ℕ → Bool
+is_counted number = eqb number 0 || (eqb number 2 || eqb number 3)
+
+-- the number of none of these
+abbrev pub IsOther : ℕ → Type 0
+IsOther number = (number ≢ 0) × (number ≢ 2) × (number ≢ 3) × (number ≢ 5) × (number ≢ 6)
 
 -- a size on a key that has none
 unfoldable pub size_bad : Bkey → Bool
@@ -32,10 +57,7 @@ check_value i k =
 unfoldable pub junk_at_end : ℕ → List ℕ → Bool
 junk_at_end kind bytes = some_nonzero (drop (accounting_fields kind bytes) bytes)
 
--- the finding of a kind; none for 0
-unfoldable pub kind_found : ℕ → ℕ → List Finding
-kind_found i kind = when (not (eqb kind 0)) (finding kind i 0)
-
--- the position and the value of a key are wrong by this kind alone, whatever the key's index; 0: nothing is wrong
-abbrev pub PositionKind : Bkey → ℕ → Type 0
-PositionKind k kind = (i : ℕ) → check_position i k ≡ kind_found i kind
+-- the finding of a kind, if there is one
+abbrev pub kind_found : ℕ → Option Kind → List Finding
+kind_found i None = []
+kind_found i (Some kind) = finding (kind_number kind) i 0 ∷ []

@@ -1,9 +1,9 @@
-// The rules on one key's device and fields: kinds 1 to 21. A key is its head and the bytes of its value, and `i` is its index.
+// The rules on one key's device and fields: kinds 1 to 21.
 #![tactic(auto)]
 
-ghost use Rattle.std.specs.Prelude.{◌≡◌, cond, [], ◌+◌, ◌/◌, ◌<◌, ◌≤◌, ◌%◌, ◌^◌, length, eqb, ltb};
+ghost use Rattle.std.specs.Prelude.{◌≡◌, [], ◌+◌, ◌/◌, ◌<◌, ◌≤◌, ◌%◌, ◌^◌, length, eqb, ltb};
 ghost use Rattle.bits.specs.Bits.{le_at};
-ghost use Rattle.findings.specs.Findings.{sink, Found, Added};
+ghost use Rattle.findings.specs.Reports.{Reports};
 ghost use Rattle.book.specs.Book.{bkey};
 ghost use Rattle.fields.specs.CheckKeyDevice.{elsewhere, check_key_device};
 ghost use Rattle.fields.specs.CheckKeyFields.{
@@ -16,86 +16,89 @@ ghost use Rattle.fields.specs.CheckKeyFields.{
   some_not_rising,
   replicas_entry_refused,
   counters_bad,
-  check_accounting_key,
-  check_inode_v3_word,
-  check_snapshot_pad,
   backpointers_start,
   alloc_v4_bytes,
-  check_alloc_v4_value,
-  bad_id,
   front_pad_bad,
-  accounting_junk,
   level_bad,
   xattr_short,
-  check_position,
   check_key_fields,
 };
-ghost use Rattle.fields.specs.Steps.{pair_of, size_bad, snapshot_bad, check_head, check_value, junk_at_end, PositionKind};
+ghost use Rattle.fields.specs.Steps.{pair_of, accounting_number, is_counted, size_bad, snapshot_bad, junk_at_end};
 
 use book::KeyHead;
+use book::names::{btree_id, key_type};
+use findings::kind::Kind;
+use findings::report::Report;
 
-// The btrees and types whose keys have no size, two numbers a row.
-const SIZE_ZERO: [u8; 30] = [
-    1, 29, 2, 10, 3, 11, 8, 21, 10, 25, 13, 28, 14, 30, 15, 31, 17, 35, 20, 34, 9, 22, 19, 25, 12,
-    25, 4, 27, 18, 25,
+// The btrees and types whose keys have no size.
+static SIZE_ZERO: [(u8, u8); 15] = [
+    (btree_id::INODES, key_type::INODE_V3),
+    (btree_id::DIRENTS, key_type::DIRENT),
+    (btree_id::XATTRS, key_type::XATTR),
+    (btree_id::SUBVOLUMES, key_type::SUBVOLUME),
+    (btree_id::LRU, key_type::SET),
+    (btree_id::BACKPOINTERS, key_type::BACKPOINTER),
+    (btree_id::BUCKET_GENS, key_type::BUCKET_GENS),
+    (btree_id::SNAPSHOT_TREES, key_type::SNAPSHOT_TREE),
+    (btree_id::LOGGED_OPS, key_type::INODE_ALLOC_CURSOR),
+    (btree_id::ACCOUNTING, key_type::ACCOUNTING),
+    (btree_id::SNAPSHOTS, key_type::SNAPSHOT),
+    (btree_id::SUBVOLUME_CHILDREN, key_type::SET),
+    (btree_id::NEED_DISCARD, key_type::SET),
+    (btree_id::ALLOC, key_type::ALLOC_V4),
+    (btree_id::RECONCILE_WORK, key_type::SET),
 ];
 
-// The btrees and types whose keys are in no snapshot, likewise.
-const SNAPSHOT_ZERO: [u8; 22] = [
-    8, 21, 9, 22, 10, 25, 12, 25, 11, 25, 17, 35, 15, 31, 13, 28, 14, 30, 19, 25, 7, 16,
+// The btrees and types whose keys are in no snapshot.
+static SNAPSHOT_ZERO: [(u8, u8); 11] = [
+    (btree_id::SUBVOLUMES, key_type::SUBVOLUME),
+    (btree_id::SNAPSHOTS, key_type::SNAPSHOT),
+    (btree_id::LRU, key_type::SET),
+    (btree_id::NEED_DISCARD, key_type::SET),
+    (btree_id::FREESPACE, key_type::SET),
+    (btree_id::LOGGED_OPS, key_type::INODE_ALLOC_CURSOR),
+    (btree_id::SNAPSHOT_TREES, key_type::SNAPSHOT_TREE),
+    (btree_id::BACKPOINTERS, key_type::BACKPOINTER),
+    (btree_id::BUCKET_GENS, key_type::BUCKET_GENS),
+    (btree_id::SUBVOLUME_CHILDREN, key_type::SET),
+    (btree_id::REFLINK, key_type::REFLINK_V),
 ];
 
 // Whether a key is on another device than the book's, and neither deleted nor a whiteout.
+#[tactic(auto, unfolding(crate::specs::CheckKeyDevice::elsewhere))]
 fn elsewhere(h: KeyHead, device: u64) -> bool
     ensures { result ≡ elsewhere device (bkey h []) }
 {
-    (h.inode != device) & (1 < h.key_type)
+    (h.inode != device) & (key_type::WHITEOUT < h.key_type)
 }
 
 // Kinds 1 and 2: a key of a btree that is filed by device, on another device than the book's.
-pub fn check_key_device(
-    h: KeyHead,
-    device: u64,
-    i: u64,
-    out: &mut [u8],
-    counts: &mut [u64],
-) -> usize
-    ensures found { Found (sink out.old counts.old) (check_key_device device i (bkey h [])) result (sink out.new counts.new) }
-    ensures few { result ≤ 2 }
+pub fn check_key_device(h: KeyHead, device: u64, index: u64, report: &mut Report<'_>)
+    requires { report.old.found < 2 ^ 61 }
+    ensures reports { Reports report.old (check_key_device device index (bkey h [])) report.new }
+    ensures few { report.new.found ≤ report.old.found + 2 }
 {
     let away = elsewhere(h, device);
-    let n = findings::emit_if(
-        out,
-        counts,
-        0,
-        away & ((h.btree == 4) | (h.btree == 14)),
-        1,
-        i,
-        0,
-    );
-    findings::emit_if(out, counts, n, away & (h.btree == 13), 2, i, 0)
+    let filed = (h.btree == btree_id::ALLOC) | (h.btree == btree_id::BUCKET_GENS);
+    report.emit_if(away & filed, Kind::PointerToNonexistentDevice, index, 0);
+    let pointer = h.btree == btree_id::BACKPOINTERS;
+    report.emit_if(away & pointer, Kind::BackpointerForMissingDevice, index, 0);
 }
 
 // Whether a table of btrees and types has a row of these.
-fn has_row(table: &[u8], btree: u8, key_type: u8) -> bool
+fn has_row(table: &[(u8, u8)], btree: u8, key_type: u8) -> bool
     ensures { result ≡ has_row table.now btree key_type }
 {
-    let mut row: usize = 0;
-    while row < table.len() / 2 {
-        let at = 2 * row;
-        if (table[at] == btree) & (table[at + 1] == key_type) {
-            return true;
-        }
-        row += 1;
-    }
-    false
+    table
+        .iter()
+        .any(|row| (row.0 == btree) & (row.1 == key_type))
 }
 
-// Whether a key has a size that it may not have: those of btrees 0 and 11 may.
+// Whether a key has a size that it may not have: those of extents and of free space may.
 fn size_bad(h: KeyHead) -> bool
     ensures { result ≡ size_bad (bkey h []) }
 {
-    if (h.size == 0) | ((h.btree == 0) | (h.btree == 11)) {
+    if (h.size == 0) | ((h.btree == btree_id::EXTENTS) | (h.btree == btree_id::FREESPACE)) {
         return false;
     }
     has_row(&SIZE_ZERO, h.btree, h.key_type)
@@ -111,73 +114,63 @@ fn snapshot_bad(h: KeyHead) -> bool
     has_row(&SNAPSHOT_ZERO, h.btree, h.key_type)
 }
 
-// A key's btree and type as one number: the btree is the high byte, the type the low one.
-fn pair(h: KeyHead) -> u32
-    ensures { result ≡ pair_of h.btree h.key_type }
+// A key's btree and type as one number, the btree its high byte.
+// Not a match on the two numbers: that jumps by a table, which takes twice as long as the compares of one on this.
+fn pair(h: KeyHead) -> u16
+    ensures value { result ≡ pair_of h.btree h.key_type }
+    ensures low { h.key_type < 2 ^ 8 }
 {
-    (h.btree as u32) * 256 + (h.key_type as u32)
+    h.btree as u16 * 256 + h.key_type as u16
 }
+
+const INODE_V3: u16 = btree_id::INODES as u16 * 256 + key_type::INODE_V3 as u16;
+
+const XATTR: u16 = btree_id::XATTRS as u16 * 256 + key_type::XATTR as u16;
+
+const ALLOC_V4: u16 = btree_id::ALLOC as u16 * 256 + key_type::ALLOC_V4 as u16;
+
+const REFLINK_P: u16 = btree_id::EXTENTS as u16 * 256 + key_type::REFLINK_P as u16;
+
+const REFLINK_V: u16 = btree_id::REFLINK as u16 * 256 + key_type::REFLINK_V as u16;
+
+const SUBVOLUME: u16 = btree_id::SUBVOLUMES as u16 * 256 + key_type::SUBVOLUME as u16;
+
+const SNAPSHOT: u16 = btree_id::SNAPSHOTS as u16 * 256 + key_type::SNAPSHOT as u16;
+
+const BACKPOINTER: u16 = btree_id::BACKPOINTERS as u16 * 256 + key_type::BACKPOINTER as u16;
+
+const SNAPSHOT_TREE: u16 = btree_id::SNAPSHOT_TREES as u16 * 256 + key_type::SNAPSHOT_TREE as u16;
+
+const INODE_ALLOC_CURSOR: u16 = btree_id::LOGGED_OPS as u16 * 256
+    + key_type::INODE_ALLOC_CURSOR as u16;
+
+const ACCOUNTING: u16 = btree_id::ACCOUNTING as u16 * 256 + key_type::ACCOUNTING as u16;
 
 // The least number of value bytes that a key must have.
 fn minimum_value(h: KeyHead) -> usize
     ensures { result ≡ minimum_value (bkey h []) }
 {
-    let p = pair(h);
-    match p {
-        0x0d1c => 32,
-        0x0916 => 24,
-        0x0815 => 16,
+    match pair(h) {
+        BACKPOINTER => 32,
+        SNAPSHOT => 24,
+        SUBVOLUME => 16,
         _ => 0,
     }
-}
-
-// Kinds 3 to 5: the size, the snapshot and the length of the value.
-fn check_head(
-    h: KeyHead,
-    value: &[u8],
-    i: u64,
-    out: &mut [u8],
-    counts: &mut [u64],
-    n: usize,
-) -> usize
-    requires { n < 2 ^ 62 }
-    ensures added { Added (sink out.old counts.old) n (check_head i (bkey h value.now)) result (sink out.new counts.new) }
-    ensures few { result ≤ n + 3 }
-{
-    let n = findings::emit_if(out, counts, n, size_bad(h), 3, i, 0);
-    let n = findings::emit_if(out, counts, n, snapshot_bad(h), 4, i, 0);
-    findings::emit_if(out, counts, n, value.len() < minimum_value(h), 5, i, 0)
 }
 
 // The position's bytes: inode, offset and snapshot, the most significant first.
 fn accounting_position_bytes(h: KeyHead) -> [u8; 20]
     ensures { result ≡ accounting_position_bytes (bkey h []) }
 {
-    [
-        ((h.inode >> 56) % 256) as u8,
-        ((h.inode >> 48) % 256) as u8,
-        ((h.inode >> 40) % 256) as u8,
-        ((h.inode >> 32) % 256) as u8,
-        ((h.inode >> 24) % 256) as u8,
-        ((h.inode >> 16) % 256) as u8,
-        ((h.inode >> 8) % 256) as u8,
-        (h.inode % 256) as u8,
-        ((h.offset >> 56) % 256) as u8,
-        ((h.offset >> 48) % 256) as u8,
-        ((h.offset >> 40) % 256) as u8,
-        ((h.offset >> 32) % 256) as u8,
-        ((h.offset >> 24) % 256) as u8,
-        ((h.offset >> 16) % 256) as u8,
-        ((h.offset >> 8) % 256) as u8,
-        (h.offset % 256) as u8,
-        ((h.snapshot >> 24) % 256) as u8,
-        ((h.snapshot >> 16) % 256) as u8,
-        ((h.snapshot >> 8) % 256) as u8,
-        (h.snapshot % 256) as u8,
-    ]
+    let mut bytes = [0; 20];
+    bytes[..8].copy_from_slice(&h.inode.to_be_bytes());
+    bytes[8..16].copy_from_slice(&h.offset.to_be_bytes());
+    bytes[16..].copy_from_slice(&h.snapshot.to_be_bytes());
+    bytes
 }
 
 // Where the devices of a replicas entry end.
+#[tactic(auto, unfolding(crate::specs::CheckKeyFields::replicas_end))]
 fn replicas_end(bytes: &[u8; 20]) -> usize
     ensures { (result ≡ replicas_end bytes.now) × (4 ≤ result) × (result ≤ 20) }
 {
@@ -188,36 +181,49 @@ fn replicas_end(bytes: &[u8; 20]) -> usize
     20
 }
 
-// How many bytes of the position the fields of the kind take.
-fn accounting_fields(kind: u64, bytes: &[u8; 20]) -> usize
-    ensures { (result ≡ accounting_fields kind bytes.now) × (result ≤ 20) }
+// The kinds of accounting keys that are judged, each the first byte of the position.
+#[derive(Clone, Copy, PartialEq, Eq)]
+enum AccountingKind {
+    NrInodes = 0,
+    Replicas = 2,
+    DevDataType = 3,
+    Snapshot = 5,
+    Btree = 6,
+}
+
+// Whether the keys of this kind hold counters that are judged.
+fn has_counters(kind: AccountingKind) -> bool
+    ensures { result ≡ is_counted (accounting_number kind) }
 {
-    if kind == 0 {
-        return 1;
+    match kind {
+        AccountingKind::NrInodes | AccountingKind::Replicas | AccountingKind::DevDataType => true,
+        AccountingKind::Snapshot | AccountingKind::Btree => false,
     }
-    if kind == 2 {
-        return replicas_end(bytes);
+}
+
+// How many bytes of the position the fields of the kind take.
+#[tactic(auto, using(crate::proofs::Laws::key_rules), unfolding(crate::specs::CheckKeyFields::accounting_fields))]
+fn accounting_fields(kind: AccountingKind, bytes: &[u8; 20]) -> usize
+    ensures { (result ≡ accounting_fields (accounting_number kind) bytes.now) × (result ≤ 20) }
+{
+    match kind {
+        AccountingKind::NrInodes => 1,
+        AccountingKind::Replicas => replicas_end(bytes),
+        _ => 3,
     }
-    3
 }
 
 // Whether some byte is not 0.
 fn some_nonzero(bytes: &[u8]) -> bool
     ensures { result ≡ some_nonzero bytes.now }
 {
-    let mut i: usize = 0;
-    while i < bytes.len() {
-        if bytes[i] != 0 {
-            return true;
-        }
-        i += 1;
-    }
-    false
+    bytes.iter().any(|b| *b != 0)
 }
 
 // Whether a byte of the position is not 0 after the fields of the kind.
-fn junk_at_end(kind: u64, bytes: &[u8; 20]) -> bool
-    ensures { result ≡ junk_at_end kind bytes.now }
+#[tactic(auto, using(crate::proofs::Laws::key_rules), unfolding(crate::specs::Steps::junk_at_end))]
+fn junk_at_end(kind: AccountingKind, bytes: &[u8; 20]) -> bool
+    ensures { result ≡ junk_at_end (accounting_number kind) bytes.now }
 {
     let from = accounting_fields(kind, bytes);
     let whole = &bytes[..];
@@ -228,17 +234,11 @@ fn junk_at_end(kind: u64, bytes: &[u8; 20]) -> bool
 fn some_not_rising(devices: &[u8]) -> bool
     ensures { result ≡ some_not_rising devices.now }
 {
-    let mut i: usize = 0;
-    while 1 < devices.len() - i {
-        if devices[i + 1] <= devices[i] {
-            return true;
-        }
-        i += 1;
-    }
-    false
+    !devices.is_sorted_by(|a, b| *a < *b)
 }
 
 // Whether a replicas entry is one that the reference refuses.
+#[tactic(auto, using(crate::proofs::Laws::key_rules), unfolding(crate::specs::CheckKeyFields::replicas_entry_refused))]
 fn replicas_entry_refused(bytes: &[u8; 20]) -> bool
     ensures { result ≡ replicas_entry_refused bytes.now }
 {
@@ -270,81 +270,16 @@ fn over_three_counters(bytes: usize) -> bool
     FOUR_COUNTERS <= bytes
 }
 
-// Whether a key of this kind may not have the counters that so many bytes hold: only dev_data_type (3) may have none.
-fn counters_bad(kind: u64, bytes: usize) -> bool
-    ensures { result ≡ counters_bad kind (bytes / 8) }
+// Whether a key of this kind may not have the counters that so many bytes hold: only dev_data_type may have none.
+#[tactic(auto, unfolding(crate::specs::CheckKeyFields::counters_bad))]
+fn counters_bad(kind: AccountingKind, bytes: usize) -> bool
+    ensures { result ≡ counters_bad (accounting_number kind) (bytes / 8) }
 {
-    over_three_counters(bytes) | (no_counter(bytes) & (kind != 3))
-}
-
-// Kinds 6 to 8: an accounting key of kind nr_inodes, replicas or dev_data_type.
-fn check_accounting_key(
-    h: KeyHead,
-    value: &[u8],
-    i: u64,
-    out: &mut [u8],
-    counts: &mut [u64],
-    n: usize,
-) -> usize
-    requires { n < 2 ^ 62 }
-    ensures added { Added (sink out.old counts.old) n (check_accounting_key i (bkey h value.now)) result (sink out.new counts.new) }
-    ensures few { result ≤ n + 3 }
-{
-    let kind = h.inode >> 56;
-    if !((kind == 0) | ((kind == 2) | (kind == 3))) {
-        return n;
-    }
-    let bytes = accounting_position_bytes(h);
-    let n = findings::emit_if(out, counts, n, junk_at_end(kind, &bytes), 6, i, 0);
-    let refused = (kind == 2) & replicas_entry_refused(&bytes);
-    let n = findings::emit_if(out, counts, n, refused, 7, i, 0);
-    findings::emit_if(out, counts, n, counters_bad(kind, value.len()), 8, i, 0)
-}
-
-// Kinds 9 and 10: the third word of an inode's value.
-fn check_inode_v3_word(
-    h: KeyHead,
-    value: &[u8],
-    i: u64,
-    out: &mut [u8],
-    counts: &mut [u64],
-    n: usize,
-) -> usize
-    requires { n < 2 ^ 62 }
-    ensures added { Added (sink out.old counts.old) n (check_inode_v3_word i (bkey h value.now)) result (sink out.new counts.new) }
-    ensures few { result ≤ n + 2 }
-{
-    if value.len() < 48 {
-        return n;
-    }
-    let word = bits::le64(value, 16);
-    let hash = word / 0x0010_0000 % 16;
-    let n = findings::emit_if(out, counts, n, 4 <= hash, 9, i, 0);
-    let start = 2 * (word / 0x0001_0000_0000 % 16);
-    let words = (value.len() / 8) as u64;
-    findings::emit_if(out, counts, n, (start < 6) | (words < start), 10, i, 0)
-}
-
-// Kind 11: the pad word of a snapshot.
-fn check_snapshot_pad(
-    h: KeyHead,
-    value: &[u8],
-    i: u64,
-    out: &mut [u8],
-    counts: &mut [u64],
-    n: usize,
-) -> usize
-    requires { n < 2 ^ 62 }
-    ensures added { Added (sink out.old counts.old) n (check_snapshot_pad i (bkey h value.now)) result (sink out.new counts.new) }
-    ensures few { result ≤ n + 1 }
-{
-    if value.len() < 64 {
-        return n;
-    }
-    findings::emit_if(out, counts, n, bits::le32(value, 60) != 0, 11, i, 0)
+    over_three_counters(bytes) | (no_counter(bytes) & (kind != AccountingKind::DevDataType))
 }
 
 // Where the backpointers of an alloc_v4 value start, in words of 8 bytes, by its start field.
+#[tactic(auto, using(crate::proofs::Laws::key_rules), unfolding(crate::specs::CheckKeyFields::backpointers_start))]
 fn backpointers_start(field: u32) -> u32
     ensures { (result ≡ backpointers_start field) × (result ≤ field + 6) }
 {
@@ -355,6 +290,7 @@ fn backpointers_start(field: u32) -> u32
 }
 
 // The bytes that an alloc_v4 value needs.
+#[tactic(auto, using(crate::proofs::Laws::key_rules), unfolding(crate::specs::CheckKeyFields::alloc_v4_bytes))]
 fn alloc_v4_bytes(value: &[u8]) -> usize
     ensures { result ≡ alloc_v4_bytes value.now }
 {
@@ -366,60 +302,6 @@ fn alloc_v4_bytes(value: &[u8]) -> usize
     ((start + 4 * (flags / 256 % 64)) * 8) as usize
 }
 
-// Kind 12: the length of an alloc_v4 value.
-fn check_alloc_v4_value(
-    h: KeyHead,
-    value: &[u8],
-    i: u64,
-    out: &mut [u8],
-    counts: &mut [u64],
-    n: usize,
-) -> usize
-    requires { n < 2 ^ 62 }
-    ensures added { Added (sink out.old counts.old) n (check_alloc_v4_value i (bkey h value.now)) result (sink out.new counts.new) }
-    ensures few { result ≤ n + 1 }
-{
-    findings::emit_if(
-        out,
-        counts,
-        n,
-        value.len() < alloc_v4_bytes(value),
-        12,
-        i,
-        0,
-    )
-}
-
-// Kinds 6 to 12, by the btree and the type.
-fn check_value(
-    h: KeyHead,
-    value: &[u8],
-    i: u64,
-    out: &mut [u8],
-    counts: &mut [u64],
-    n: usize,
-) -> usize
-    requires { n < 2 ^ 62 }
-    ensures added { Added (sink out.old counts.old) n (check_value i (bkey h value.now)) result (sink out.new counts.new) }
-    ensures few { result ≤ n + 3 }
-{
-    let p = pair(h);
-    match p {
-        0x1422 => check_accounting_key(h, value, i, out, counts, n),
-        0x011d => check_inode_v3_word(h, value, i, out, counts, n),
-        0x0916 => check_snapshot_pad(h, value, i, out, counts, n),
-        0x041b => check_alloc_v4_value(h, value, i, out, counts, n),
-        _ => n,
-    }
-}
-
-// Whether a key is not at `0:id` with a 32-bit id other than 0.
-fn bad_id(h: KeyHead) -> bool
-    ensures { result ≡ bad_id (bkey h []) }
-{
-    (h.offset == 0) | ((4294967295 < h.offset) | (h.inode != 0))
-}
-
 // The index of a reflink_p value: the low 56 bits of its first word.
 fn reflink_p_idx(value: &[u8]) -> u64
     requires { 8 ≤ length value.now }
@@ -429,6 +311,7 @@ fn reflink_p_idx(value: &[u8]) -> u64
 }
 
 // Whether the index of a reflink_p value is below its front_pad.
+#[tactic(auto, using(crate::proofs::Laws::key_rules), unfolding(crate::specs::CheckKeyFields::front_pad_bad))]
 fn front_pad_bad(value: &[u8]) -> bool
     ensures { result ≡ front_pad_bad value.now }
 {
@@ -438,17 +321,8 @@ fn front_pad_bad(value: &[u8]) -> bool
     reflink_p_idx(value) < (bits::le32(value, 8) as u64)
 }
 
-// Whether an accounting key of kind btree or snapshot holds more than its fields.
-fn accounting_junk(h: KeyHead) -> bool
-    ensures { result ≡ accounting_junk (bkey h []) }
-{
-    let kind = h.inode >> 56;
-    let below = h.inode % 0x0001_0000_0000_0000;
-    ((kind == 6) & ((below != 0) | ((h.offset != 0) | (h.snapshot != 0))))
-        | ((kind == 5) & (h.offset != 0))
-}
-
 // Whether the level of a backpointer is above 4.
+#[tactic(auto, using(crate::proofs::Laws::key_rules), unfolding(crate::specs::CheckKeyFields::level_bad))]
 fn level_bad(value: &[u8]) -> bool
     ensures { result ≡ level_bad value.now }
 {
@@ -459,6 +333,7 @@ fn level_bad(value: &[u8]) -> bool
 }
 
 // Whether an xattr's name and value do not fit the key's value.
+#[tactic(auto, using(crate::proofs::Laws::key_rules), unfolding(crate::specs::CheckKeyFields::xattr_short))]
 fn xattr_short(value: &[u8]) -> bool
     ensures { result ≡ xattr_short value.now }
 {
@@ -470,62 +345,214 @@ fn xattr_short(value: &[u8]) -> bool
     value.len() < ((4 + name + size) as usize)
 }
 
-// A kind where the test holds, else 0.
-fn kind_if(test: bool, kind: u8) -> u8
-    ensures { result ≡ cond test kind 0 }
-{
-    if test { kind } else { 0 }
+// A key to be judged: its head, the bytes of its value, and its index.
+#[derive(Clone, Copy)]
+struct Judged<'a> {
+    head: KeyHead,
+    value: &'a [u8],
+    index: u64,
 }
 
-// The kind of what is wrong with a key's position or value, by the btree and the type: 0 if nothing is.
-fn position_kind(h: KeyHead, value: &[u8]) -> u8
-    ensures { PositionKind (bkey h value.now) result }
-{
-    let p = pair(h);
-    match p {
-        0x011d => kind_if(h.inode != 0, 13),
-        0x0815 => kind_if(bad_id(h), 14),
-        0x0916 => kind_if(bad_id(h), 15),
-        0x0710 => kind_if(h.inode != 0, 16),
-        0x000f => kind_if(front_pad_bad(value), 17),
-        0x1123 => kind_if(h.inode != 1, 18),
-        0x0f1f => kind_if(bad_id(h), 19),
-        0x1422 => kind_if(accounting_junk(h), 6),
-        0x0d1c => kind_if(level_bad(value), 20),
-        0x030b => kind_if(xattr_short(value), 21),
-        _ => 0,
+impl<'a> Judged<'a> {
+    ghost use Rattle.std.specs.Prelude.{◌≡◌, ◌+◌, ◌^◌, ◌<◌, ◌≤◌, MatchOption};
+    ghost use Rattle.findings.specs.Reports.{Reports};
+    ghost use Rattle.fields.specs.CheckKeyFields.{
+      accounting_kind,
+      check_accounting_key,
+      check_inode_v3_word,
+      check_snapshot_pad,
+      check_alloc_v4_value,
+      bad_id,
+      accounting_junk,
+      check_position,
+    };
+    ghost use Rattle.fields.specs.Steps.{judged, accounting_number, IsOther, check_head, check_value, kind_found};
+
+    // Kinds 3 to 5: the size, the snapshot and the length of the value.
+    fn check_head(&self, report: &mut Report<'_>)
+        requires { report.old.found < 2 ^ 62 }
+        ensures reports { Reports report.old (check_head self.now.index (judged self.now)) report.new }
+        ensures few { report.new.found ≤ report.old.found + 3 }
+    {
+        let i = self.index;
+        report.emit_if(size_bad(self.head), Kind::BkeySizeNonzero, i, 0);
+        report.emit_if(snapshot_bad(self.head), Kind::BkeySnapshotNonzero, i, 0);
+        let short = self.value.len() < minimum_value(self.head);
+        report.emit_if(short, Kind::BkeyValSizeTooSmall, i, 0);
+    }
+
+    // The kind of an accounting key, if keys of the kind are judged.
+    #[tactic(auto, unfolding(crate::specs::CheckKeyFields::accounting_kind))]
+    fn accounting_kind(&self) -> Option<AccountingKind>
+        ensures { MatchOption result (IsOther (accounting_kind (judged self.now))) (λ kind. accounting_number kind ≡ accounting_kind (judged self.now)) }
+    {
+        match self.head.inode >> 56 {
+            0 => Some(AccountingKind::NrInodes),
+            2 => Some(AccountingKind::Replicas),
+            3 => Some(AccountingKind::DevDataType),
+            5 => Some(AccountingKind::Snapshot),
+            6 => Some(AccountingKind::Btree),
+            _ => None,
+        }
+    }
+
+    // Kinds 6 to 8: an accounting key of kind nr_inodes, replicas or dev_data_type.
+    fn check_accounting_key(&self, report: &mut Report<'_>)
+        requires { report.old.found < 2 ^ 62 }
+        ensures reports { Reports report.old (check_accounting_key self.now.index (judged self.now)) report.new }
+        ensures few { report.new.found ≤ report.old.found + 3 }
+    {
+        let i = self.index;
+        let Some(kind) = self.accounting_kind() else {
+            return;
+        };
+        if !has_counters(kind) {
+            return;
+        }
+        let bytes = accounting_position_bytes(self.head);
+        report.emit_if(
+            junk_at_end(kind, &bytes),
+            Kind::AccountingKeyJunkAtEnd,
+            i,
+            0,
+        );
+        let refused = (kind == AccountingKind::Replicas) & replicas_entry_refused(&bytes);
+        report.emit_if(refused, Kind::AccountingReplicasBad, i, 0);
+        let bad = counters_bad(kind, self.value.len());
+        report.emit_if(bad, Kind::AccountingKeyCountersBad, i, 0);
+    }
+
+    // Kinds 9 and 10: the third word of an inode's value.
+    fn check_inode_v3_word(&self, report: &mut Report<'_>)
+        requires { report.old.found < 2 ^ 62 }
+        ensures reports { Reports report.old (check_inode_v3_word self.now.index (judged self.now)) report.new }
+        ensures few { report.new.found ≤ report.old.found + 2 }
+    {
+        if self.value.len() < 48 {
+            return;
+        }
+        let i = self.index;
+        let word = bits::le64(self.value, 16);
+        let hash = word / 0x0010_0000 % 16;
+        report.emit_if(4 <= hash, Kind::InodeStrHashInvalid, i, 0);
+        let start = 2 * (word / 0x0001_0000_0000 % 16);
+        let words = (self.value.len() / 8) as u64;
+        report.emit_if(
+            (start < 6) | (words < start),
+            Kind::InodeFieldsStartBad,
+            i,
+            0,
+        );
+    }
+
+    // Kind 11: the pad word of a snapshot.
+    #[tactic(auto, using(crate::proofs::Laws::key_rules), unfolding(crate::specs::CheckKeyFields::check_snapshot_pad))]
+    fn check_snapshot_pad(&self, report: &mut Report<'_>)
+        requires { report.old.found < 2 ^ 62 }
+        ensures reports { Reports report.old (check_snapshot_pad self.now.index (judged self.now)) report.new }
+        ensures few { report.new.found ≤ report.old.found + 1 }
+    {
+        if self.value.len() < 64 {
+            return;
+        }
+        let padded = bits::le32(self.value, 60) != 0;
+        report.emit_if(padded, Kind::SnapshotPadNonzero, self.index, 0);
+    }
+
+    // Kind 12: the length of an alloc_v4 value.
+    #[tactic(auto, using(crate::proofs::Laws::key_rules), unfolding(crate::specs::CheckKeyFields::check_alloc_v4_value))]
+    fn check_alloc_v4_value(&self, report: &mut Report<'_>)
+        requires { report.old.found < 2 ^ 62 }
+        ensures reports { Reports report.old (check_alloc_v4_value self.now.index (judged self.now)) report.new }
+        ensures few { report.new.found ≤ report.old.found + 1 }
+    {
+        let short = self.value.len() < alloc_v4_bytes(self.value);
+        report.emit_if(short, Kind::AllocV4ValSizeBad, self.index, 0);
+    }
+
+    // Kinds 6 to 12, by the btree and the type.
+    fn check_value(&self, report: &mut Report<'_>)
+        requires { report.old.found < 2 ^ 62 }
+        ensures reports { Reports report.old (check_value self.now.index (judged self.now)) report.new }
+        ensures few { report.new.found ≤ report.old.found + 3 }
+    {
+        match pair(self.head) {
+            ACCOUNTING => self.check_accounting_key(report),
+            INODE_V3 => self.check_inode_v3_word(report),
+            SNAPSHOT => self.check_snapshot_pad(report),
+            ALLOC_V4 => self.check_alloc_v4_value(report),
+            _ => {}
+        }
+    }
+
+    // Whether the key is not at `0:id` with a 32-bit id other than 0.
+    #[tactic(auto, unfolding(crate::specs::CheckKeyFields::bad_id))]
+    fn bad_id(&self) -> bool
+        ensures { result ≡ bad_id (judged self.now) }
+    {
+        let h = self.head;
+        (h.offset == 0) | ((0xffff_ffff < h.offset) | (h.inode != 0))
+    }
+
+    // Whether an accounting key of kind btree or snapshot holds more than its fields.
+    #[tactic(auto, using(crate::proofs::Laws::key_rules), unfolding(crate::specs::CheckKeyFields::accounting_junk))]
+    fn accounting_junk(&self) -> bool
+        ensures { result ≡ accounting_junk (judged self.now) }
+    {
+        let h = self.head;
+        let below = h.inode % 0x0001_0000_0000_0000;
+        match self.accounting_kind() {
+            Some(AccountingKind::Btree) => (below != 0) | ((h.offset != 0) | (h.snapshot != 0)),
+            Some(AccountingKind::Snapshot) => h.offset != 0,
+            Some(AccountingKind::NrInodes | AccountingKind::Replicas | AccountingKind::DevDataType)
+            | None => false,
+        }
+    }
+
+    // The kind of what is wrong with the position or the value, by the btree and the type.
+    fn position_kind(&self) -> Option<Kind>
+        ensures { kind_found self.now.index result ≡ check_position self.now.index (judged self.now) }
+    {
+        let h = self.head;
+        match pair(h) {
+            INODE_V3 => { (h.inode != 0).then_some(Kind::InodePosInodeNonzero) }
+            SUBVOLUME => { self.bad_id().then_some(Kind::SubvolPosBad) }
+            SNAPSHOT => { self.bad_id().then_some(Kind::SnapshotPosBad) }
+            REFLINK_V => { (h.inode != 0).then_some(Kind::ReflinkVPosBad) }
+            REFLINK_P => { front_pad_bad(self.value).then_some(Kind::ReflinkPFrontPadBad) }
+            INODE_ALLOC_CURSOR => { (h.inode != 1).then_some(Kind::InodeAllocCursorInodeBad) }
+            SNAPSHOT_TREE => { self.bad_id().then_some(Kind::SnapshotTreePosBad) }
+            ACCOUNTING => {
+                self.accounting_junk()
+                    .then_some(Kind::AccountingKeyJunkAtEnd)
+            }
+            BACKPOINTER => { level_bad(self.value).then_some(Kind::BackpointerLevelBad) }
+            XATTR => { xattr_short(self.value).then_some(Kind::XattrValSizeTooSmall) }
+            _ => None,
+        }
+    }
+
+    // Kinds 13 to 21, and 6 for the kinds btree and snapshot of accounting keys.
+    #[tactic(auto, using(crate::proofs::Laws::key_rules))]
+    fn check_position(&self, report: &mut Report<'_>)
+        requires { report.old.found < 2 ^ 62 }
+        ensures reports { Reports report.old (check_position self.now.index (judged self.now)) report.new }
+        ensures few { report.new.found ≤ report.old.found + 1 }
+    {
+        if let Some(kind) = self.position_kind() {
+            report.emit(kind, self.index, 0);
+        }
     }
 }
 
-// Kinds 13 to 21, and 6 for the kinds btree and snapshot of accounting keys.
-fn check_position(
-    h: KeyHead,
-    value: &[u8],
-    i: u64,
-    out: &mut [u8],
-    counts: &mut [u64],
-    n: usize,
-) -> usize
-    requires { n < 2 ^ 62 }
-    ensures added { Added (sink out.old counts.old) n (check_position i (bkey h value.now)) result (sink out.new counts.new) }
-    ensures few { result ≤ n + 1 }
-{
-    let kind = position_kind(h, value);
-    findings::emit_if(out, counts, n, kind != 0, kind, i, 0)
-}
-
 // Kinds 3 to 21: what a key's own fields may not hold.
-pub fn check_key_fields(
-    h: KeyHead,
-    value: &[u8],
-    i: u64,
-    out: &mut [u8],
-    counts: &mut [u64],
-) -> usize
-    ensures found { Found (sink out.old counts.old) (check_key_fields i (bkey h value.now)) result (sink out.new counts.new) }
-    ensures few { result ≤ 7 }
+pub fn check_key_fields(head: KeyHead, value: &[u8], index: u64, report: &mut Report<'_>)
+    requires { report.old.found < 2 ^ 61 }
+    ensures reports { Reports report.old (check_key_fields index (bkey head value.now)) report.new }
+    ensures few { report.new.found ≤ report.old.found + 7 }
 {
-    let n = check_head(h, value, i, out, counts, 0);
-    let n = check_value(h, value, i, out, counts, n);
-    check_position(h, value, i, out, counts, n)
+    let key = Judged { head, value, index };
+    key.check_head(report);
+    key.check_value(report);
+    key.check_position(report);
 }

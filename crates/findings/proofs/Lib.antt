@@ -2,3 +2,4 @@ pub mod Counts
 pub mod Laws
 pub mod Meaning
 pub mod Walk
+pub mod Reports

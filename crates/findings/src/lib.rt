@@ -5,6 +5,9 @@ ghost use Rattle.std.specs.Prelude.{◌≡◌, ◌+◌, ◌^◌, ◌<◌, ◌≤
 ghost use Rattle.std.proofs.lemmas.List.Edits.{sets};
 ghost use Rattle.findings.specs.Findings.{finding, bytes_of, put, start, when, bump, sink, Added};
 
+pub mod kind;
+pub mod report;
+
 // Where finding number n begins in a buffer of len bytes: the part of the buffer that is left for it and those after it.
 pub fn start_of(len: usize, n: usize) -> usize
     ensures { result ≡ start len n }

@@ -1,17 +1,10 @@
 // Emits three findings into buffers of 51, 50, 17, 16 and 0 bytes, and prints each time the count, the buffer, and the counts by kind that are not 0.
 #![tactic(auto)]
 
-// A byte as a number of 64 bits.
-fn wide(x: u8) -> u64 {
-    x as u64
-}
-
 // Prints the bytes in hexadecimal, and a line end.
 fn show(bytes: &[u8]) {
-    let mut i: usize = 0;
-    while i < bytes.len() {
-        io::print_hex(1, wide(bytes[i]), 2);
-        i += 1;
+    for byte in bytes {
+        io::print_hex(1, *byte as u64, 2);
     }
     io::write_all(1, b"\n");
 }
@@ -29,15 +22,14 @@ fn show_count(kind: usize, count: u64) {
 // Prints the counts by kind, and a line end.
 fn show_counts(counts: &[u64]) {
     io::write_all(1, b"counts");
-    let mut k: usize = 0;
-    while k < counts.len() {
-        show_count(k, counts[k]);
-        k += 1;
+    for (kind, count) in counts.iter().enumerate() {
+        show_count(kind, *count);
     }
     io::write_all(1, b"\n");
 }
 
 // Emits the three findings, of which the first two have the least and the greatest numbers, and one whose test fails.
+// Not by a report: no kind has the number 255 or 0.
 fn emit_three(out: &mut [u8], counts: &mut [u64]) -> usize {
     let n = findings::emit(out, counts, 0, 255, 0xffff_ffff_ffff_ffff, 0);
     let n = findings::emit(out, counts, n, 0, 0, 0xffff_ffff_ffff_ffff);

@@ -1,9 +1,10 @@
 -- What it means for each rule of `snapshot_links` that it reports no forest kind.
+use Rattle.std.specs.Prelude.{None, Option, Some}
 use mathlib.Core.Bool.{Bool, true, false, true≢false, not, ◌&&◌, ◌||◌}
 use mathlib.Core.Logic.{◌⊎◌, inl, inr, ⊎_elim, ◌↔◌}
 use mathlib.Core.List.Memᴰ
 use mathlib.Core.List.{List, [], ◌∷◌, ◌++◌}
-use mathlib.Core.Option.{Option, none, some, some-injective}
+use Rattle.std.proofs.lemmas.Option.{same_Some}
 use mathlib.Core.Path.{◌≡◌, refl, ap, sym, subst, ◌∙◌}
 use Prim.Native.Nat.{ℕ}
 use native.Mathlib.Omega.{arith}
@@ -79,23 +80,23 @@ absent_other false kind s o k f m n = Memᴰ.not-nil m
 
 -- THE TESTS OF THE RULES
 
-pub is_some : (x : ℕ) (o : Option ℕ) → is_the x o ≡ true ↔ o ≡ some x
+pub is_some : (x : ℕ) (o : Option ℕ) → is_the x o ≡ true ↔ o ≡ Some x
 unfolding is_the
-is_some x none = ((λ e. absurd (true≢false (sym e))), (λ e. let z : ◌≡◌ {A = ℕ} 0 1 = cc in absurd (omega arith)))
-is_some x (some y) = ((λ e. ap some (eqb-true y x e)), (λ e. eq-eqb y x (some-injective y x e)))
+is_some x None = ((λ e. absurd (true≢false (sym e))), (λ e. let z : ◌≡◌ {A = ℕ} 0 1 = cc in absurd (omega arith)))
+is_some x (Some y) = ((λ e. ap Some (eqb-true y x e)), (λ e. eq-eqb y x (same_Some y x e)))
 
-pub no_root : (t : Option (ℕ × ℕ)) → names_root t none ≡ false
+pub no_root : (t : Option (ℕ × ℕ)) → names_root t None ≡ false
 unfolding names_root
-no_root none = refl
-no_root (some x) = refl
+no_root None = refl
+no_root (Some x) = refl
 
-pub names_root_lem : (t r : Option (ℕ × ℕ)) → names_root t r ≡ true → (x : ℕ × ℕ) × (y : ℕ × ℕ) × (t ≡ some x) × (r ≡ some y) × (x.1 ≡ y.0)
+pub names_root_lem : (t r : Option (ℕ × ℕ)) → names_root t r ≡ true → (x : ℕ × ℕ) × (y : ℕ × ℕ) × (t ≡ Some x) × (r ≡ Some y) × (x.1 ≡ y.0)
 unfolding names_root
-names_root_lem none r e = absurd (true≢false (sym e))
-names_root_lem (some x) none e = absurd (true≢false (sym e))
-names_root_lem (some x) (some y) e = (x, y, refl, refl, eqb-true x.1 y.0 e)
+names_root_lem None r e = absurd (true≢false (sym e))
+names_root_lem (Some x) None e = absurd (true≢false (sym e))
+names_root_lem (Some x) (Some y) e = (x, y, refl, refl, eqb-true x.1 y.0 e)
 
-pub depth_right : (y : ℕ × ℕ) (d : ℕ) → wrong_depth d (some y) ≡ false ↔ d ≡ y.1
+pub depth_right : (y : ℕ × ℕ) (d : ℕ) → wrong_depth d (Some y) ≡ false ↔ d ≡ y.1
 unfolding wrong_depth
 depth_right y d = ((λ e. eqb-true d y.1 (not-false (eqb d y.1) e)), (λ e. ap not (eq-eqb d y.1 e)))
 

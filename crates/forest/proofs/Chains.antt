@@ -1,9 +1,10 @@
 -- Links and chains of a forest book: where links lead is one snapshot, a way to a parentless snapshot goes through every ancestor,
 -- and the walk over the parents table finds that snapshot and the ids on the way.
+use Rattle.std.specs.Prelude.{Some}
 use mathlib.Core.Logic.{◌⊎◌, inl, inr}
 use mathlib.Core.List.Memᴰ
 use mathlib.Core.List.{◌∷◌}
-use mathlib.Core.Option.{some, some-injective}
+use Rattle.std.proofs.lemmas.Option.{same_Some}
 use mathlib.Core.Path.{◌≡◌, refl, ap, sym, subst, ◌∙◌}
 use Prim.Native.Nat.{ℕ, zero, suc, ◌+◌, ◌≤◌}
 use native.Mathlib.Omega.{arith}
@@ -56,10 +57,10 @@ module _ (b : Book) (F : ForestBook b) where
 
   -- links to a parentless snapshot are a way over the table
   links_way : (n : ℕ) (s r : Bkey) → s ∈ snapshots b → Links b n s r → parent_word r ≡ 0 → Way (parents_of b) n s.offset r.offset
-  links_way zero s r m l z = ((parents_read b F).at s m ∙ ap some (ap parent_word l ∙ z), ap (λ (k : Bkey). k.offset) l)
+  links_way zero s r m l z = ((parents_read b F).at s m ∙ ap Some (ap parent_word l ∙ z), ap (λ (k : Bkey). k.offset) l)
   links_way (suc n) s r m l z = (
     l.0.offset,
-    (parents_read b F).at s m ∙ ap some (sym l.1.1),
+    (parents_read b F).at s m ∙ ap Some (sym l.1.1),
     (λ e. link_parent s l.0 l.1 (sym l.1.1 ∙ e)),
     links_way n l.0 r l.1.0 l.2 z,
   )
@@ -67,25 +68,25 @@ module _ (b : Book) (F : ForestBook b) where
   -- and the other way round
   way_links : (n : ℕ) (s : Bkey) → s ∈ snapshots b → (i : ℕ) → Way (parents_of b) n s.offset i
       → (r : Bkey) × Links b n s r × (parent_word r ≡ 0) × (r.offset ≡ i)
-  way_links zero s m i w = (s, refl, some-injective _ _ (sym ((parents_read b F).at s m) ∙ w.0), w.1)
+  way_links zero s m i w = (s, refl, same_Some _ _ (sym ((parents_read b F).at s m) ∙ w.0), w.1)
   way_links (suc n) s m i w =
       let v = way_present n w.0 w.3 in
       let p = (parents_read b F).from w.0 v.0 v.1 in
-      let e : w.0 ≡ parent_word s = some-injective _ _ (sym w.1 ∙ (parents_read b F).at s m) in
+      let e : w.0 ≡ parent_word s = same_Some _ _ (sym w.1 ∙ (parents_read b F).at s m) in
       let t = way_links n p.0 p.1 i (subst (λ (j : ℕ). Way (parents_of b) n j i) (sym p.2) w.3) in
       (t.0, (p.0, (p.1, p.2 ∙ e), t.1), t.2, t.3)
     where
-      way_present : (k j : ℕ) → Way (parents_of b) k j i → (q : ℕ) × (lookup j (parents_of b) ≡ some q)
+      way_present : (k j : ℕ) → Way (parents_of b) k j i → (q : ℕ) × (lookup j (parents_of b) ≡ Some q)
       way_present zero j x = (0, x.0)
       way_present (suc k) j x = (x.0, x.1)
 
   -- the walk over the table finds the parentless snapshot that links lead to, and nothing else
   pub root_found : (n : ℕ) (s r : Bkey) → s ∈ snapshots b → Links b n s r → parent_word r ≡ 0 → n ≤ 1024
-      → root_of (parents_of b) s.offset ≡ some (r.offset, n)
+      → root_of (parents_of b) s.offset ≡ Some (r.offset, n)
   unfolding root_of
   root_found n s r m l z h = way_root (parents_of b) n 1024 s.offset r.offset (links_way n s r m l z) h
 
-  pub found_root : (s : Bkey) → s ∈ snapshots b → (i n : ℕ) → root_of (parents_of b) s.offset ≡ some (i, n)
+  pub found_root : (s : Bkey) → s ∈ snapshots b → (i n : ℕ) → root_of (parents_of b) s.offset ≡ Some (i, n)
       → (r : Bkey) × Links b n s r × (parent_word r ≡ 0) × (r.offset ≡ i) × (n ≤ 1024)
   unfolding root_of
   found_root s m i n h =
@@ -96,7 +97,7 @@ module _ (b : Book) (F : ForestBook b) where
   -- THE IDS ON THE WAY
 
   up_parent : (n : ℕ) (s p : Bkey) → s ∈ snapshots b → Link b s p → links_up (parents_of b) (suc n) s.offset ≡ p.offset ∷ links_up (parents_of b) n p.offset
-  up_parent n s p m l = up_link (parents_of b) n s.offset p.offset ((parents_read b F).at s m ∙ ap some (sym l.1))
+  up_parent n s p m l = up_link (parents_of b) n s.offset p.offset ((parents_read b F).at s m ∙ ap Some (sym l.1))
 
   -- each is the id of an ancestor
   pub up_ancestor : (n : ℕ) (s r : Bkey) → s ∈ snapshots b → Links b n s r → (w : ℕ) → w ∈ links_up (parents_of b) n s.offset

@@ -1,9 +1,9 @@
 -- Laws of `lookup`, `insert` and `collect`.
+use Rattle.std.specs.Prelude.{None, Option, Some}
 use mathlib.Core.Bool.{Bool, true, false, cond}
 use mathlib.Core.Logic.{◌⊎◌, inl, inr, ⊎_elim}
 use mathlib.Core.List.Memᴰ
 use mathlib.Core.List.{List, [], ◌∷◌, map}
-use mathlib.Core.Option.{Option, none, some}
 use mathlib.Core.Path.{◌≡◌, refl, ap, sym, subst, ◌∙◌}
 use Prim.Native.Nat.{ℕ}
 use native.Mathlib.Omega.{arith}
@@ -21,7 +21,7 @@ eq_or_not i j = go (eqb i j) refl
 
 module _ {A : Type 0} where
   -- the pair with the id is found, or what stands behind it
-  pub lookup_here : (i : ℕ) (e : ℕ × A) (m : List (ℕ × A)) → i ≡ e.0 → lookup i (e ∷ m) ≡ some e.1
+  pub lookup_here : (i : ℕ) (e : ℕ × A) (m : List (ℕ × A)) → i ≡ e.0 → lookup i (e ∷ m) ≡ Some e.1
   unfolding lookup
   lookup_here i e m h = rw (eq-eqb i e.0 h)
 
@@ -29,12 +29,12 @@ module _ {A : Type 0} where
   unfolding lookup
   lookup_past i e m h = rw (ne_eqb i e.0 h)
 
-  pub lookup_mem : (i : ℕ) (m : List (ℕ × A)) (v : A) → lookup i m ≡ some v → (i, v) ∈ m
+  pub lookup_mem : (i : ℕ) (m : List (ℕ × A)) (v : A) → lookup i m ≡ Some v → (i, v) ∈ m
   unfolding lookup
   lookup_mem i [] v h = let z : ◌≡◌ {A = ℕ} 0 1 = cc in absurd (omega arith)
   lookup_mem i (e ∷ m) v h = go (eq_or_not i e.0) (λ h'. lookup_mem i m v h')
     where
-      go : (i ≡ e.0) ⊎ (i ≡ e.0 → ⊥) → (lookup i m ≡ some v → (i, v) ∈ m) → (i, v) ∈ (e ∷ m)
+      go : (i ≡ e.0) ⊎ (i ≡ e.0 → ⊥) → (lookup i m ≡ Some v → (i, v) ∈ m) → (i, v) ∈ (e ∷ m)
       go (inl p) ih =
           let q : e.1 ≡ v = cc (lookup_here i e m p) in
           Memᴰ.head (λ k. (p k, sym q k))
@@ -87,7 +87,7 @@ module _ {A : Type 0} where
   -- what the last pair with the id has, or else d: a scan of the pairs
   unfoldable pub last_of : ℕ → Option A → List (ℕ × A) → Option A
   last_of i d [] = d
-  last_of i d (e ∷ es) = last_of i (cond (eqb i e.0) (some e.1) d) es
+  last_of i d (e ∷ es) = last_of i (cond (eqb i e.0) (Some e.1) d) es
 
   pub insert_all_lookup : (i : ℕ) (m es : List (ℕ × A)) → lookup i (insert_all m es) ≡ last_of i (lookup i m) es
   unfolding insert_all last_of lookup
@@ -95,7 +95,7 @@ module _ {A : Type 0} where
   insert_all_lookup i m (e ∷ es) = insert_all_lookup i (insert e m) es ∙ ap (λ (o : Option A). last_of i o es) (insert_lookup i e m)
 
   -- the map made from pairs has the last pair of each id
-  pub collect_lookup : (i : ℕ) (es : List (ℕ × A)) → lookup i (collect es) ≡ last_of i none es
+  pub collect_lookup : (i : ℕ) (es : List (ℕ × A)) → lookup i (collect es) ≡ last_of i None es
   unfolding collect lookup
   collect_lookup i es = insert_all_lookup i [] es
 
@@ -126,12 +126,12 @@ module _ {A : Type 0} where
   last_of_absent i d (e ∷ es) n =
       rw (ne_eqb i e.0 (λ p. n (Memᴰ.head p))) (last_of_absent i d es (λ m. n (Memᴰ.tail m)))
 
-  pub last_of_distinct : (i : ℕ) (v : A) (d : Option A) (es : List (ℕ × A)) → Distinct (ids es) → (i, v) ∈ es → last_of i d es ≡ some v
+  pub last_of_distinct : (i : ℕ) (v : A) (d : Option A) (es : List (ℕ × A)) → Distinct (ids es) → (i, v) ∈ es → last_of i d es ≡ Some v
   unfolding last_of
   last_of_distinct i v d [] h m = absurd (Memᴰ.not-nil m)
   last_of_distinct i v d (e ∷ es) h (Memᴰ.head p) =
       let q : i ≡ e.0 = ap (λ (x : ℕ × A). x.0) p in
       let r : v ≡ e.1 = ap (λ (x : ℕ × A). x.1) p in
       rw (eq-eqb i e.0 q)
-      (last_of_absent i (some e.1) es (λ m. h.0 (subst (λ (j : ℕ). j ∈ ids es) q m)) ∙ ap some (sym r))
-  last_of_distinct i v d (e ∷ es) h (Memᴰ.tail m) = last_of_distinct i v (cond (eqb i e.0) (some e.1) d) es h.1 m
+      (last_of_absent i (Some e.1) es (λ m. h.0 (subst (λ (j : ℕ). j ∈ ids es) q m)) ∙ ap Some (sym r))
+  last_of_distinct i v d (e ∷ es) h (Memᴰ.tail m) = last_of_distinct i v (cond (eqb i e.0) (Some e.1) d) es h.1 m

@@ -1,9 +1,9 @@
 -- In a forest book each map reads its keys: an id has in it the word of the one key with that offset.
+use Rattle.std.specs.Prelude.{None, Some}
 use mathlib.Core.Bool.{Bool, true, false, cond, ◌&&◌}
 use mathlib.Core.Logic.{◌⊎◌, inl, inr}
 use mathlib.Core.List.Memᴰ
 use mathlib.Core.List.{List, [], ◌∷◌, map}
-use mathlib.Core.Option.{none, some}
 use mathlib.Core.Path.{◌≡◌, refl, ap, ap₂, sym, subst, ◌∙◌}
 use Prim.Native.Nat.{ℕ, ◌≤◌}
 use native.Mathlib.Omega.{arith}
@@ -24,8 +24,8 @@ use Rattle.forest.proofs.Maps.{eq_or_not, lookup_here, lookup_past, lookup_mem, 
 
 -- `m` reads `word` of the keys `ks`
 pub record Reads {A : Type 0} (m : List (ℕ × A)) (ks : List Bkey) (word : Bkey → A) : Type 0 where
-  pub at : (k : Bkey) → k ∈ ks → lookup k.offset m ≡ some (word k)
-  pub from : (i : ℕ) (v : A) → lookup i m ≡ some v → (k : Bkey) × (k ∈ ks) × (k.offset ≡ i) × (word k ≡ v)
+  pub at : (k : Bkey) → k ∈ ks → lookup k.offset m ≡ Some (word k)
+  pub from : (i : ℕ) (v : A) → lookup i m ≡ Some v → (k : Bkey) × (k ∈ ks) × (k.offset ≡ i) × (word k ≡ v)
 
 pub id_same : (k : Bkey) → k.offset ≤ 4294967295 → id_of k ≡ k.offset
 unfolding id_of
@@ -60,13 +60,13 @@ module _ {A : Type 0} (word : Bkey → A) (ks : List Bkey) (fits : (k : Bkey) �
       ids_are (k ∷ l) f =
           ap₂ ◌∷◌ (id_same k (f k (Memᴰ.head refl))) (ids_are l (λ x m. f x (Memᴰ.tail m)))
 
-  pub made_at : (k : Bkey) → k ∈ ks → lookup k.offset (made word ks) ≡ some (word k)
+  pub made_at : (k : Bkey) → k ∈ ks → lookup k.offset (made word ks) ≡ Some (word k)
   unfolding pairs
   made_at k m =
       collect_lookup k.offset pairs
-      ∙ last_of_distinct k.offset (word k) none pairs distinct_pairs (rw pairs_are (mem_map (λ x. (x.offset, word x)) m))
+      ∙ last_of_distinct k.offset (word k) None pairs distinct_pairs (rw pairs_are (mem_map (λ x. (x.offset, word x)) m))
 
-  pub made_from : (i : ℕ) (v : A) → lookup i (made word ks) ≡ some v → (k : Bkey) × (k ∈ ks) × (k.offset ≡ i) × (word k ≡ v)
+  pub made_from : (i : ℕ) (v : A) → lookup i (made word ks) ≡ Some v → (k : Bkey) × (k ∈ ks) × (k.offset ≡ i) × (word k ≡ v)
   made_from i v h =
       let r = made_mem (i, v) (lookup_mem i (made word ks) v h) in
       (r.0, r.1, ap (λ (x : ℕ × A). x.0) (sym r.2), ap (λ (x : ℕ × A). x.1) (sym r.2))
@@ -74,12 +74,12 @@ module _ {A : Type 0} (word : Bkey → A) (ks : List Bkey) (fits : (k : Bkey) �
   pub made_reads : Reads (made word ks) ks word
   made_reads = record { at = made_at; from = made_from }
 
-pub mem_lookup : {A : Type 0} (i : ℕ) (v : A) (m : List (ℕ × A)) → (i, v) ∈ m → (w : A) × (lookup i m ≡ some w)
+pub mem_lookup : {A : Type 0} (i : ℕ) (v : A) (m : List (ℕ × A)) → (i, v) ∈ m → (w : A) × (lookup i m ≡ Some w)
 mem_lookup i v [] h = absurd (Memᴰ.not-nil h)
 mem_lookup {A} i v (e ∷ m) (Memᴰ.head p) = (e.1, lookup_here i e m (ap (λ (x : ℕ × A). x.0) p))
 mem_lookup {A} i v (e ∷ m) (Memᴰ.tail h) = go (eq_or_not i e.0) (mem_lookup i v m h)
   where
-    go : (i ≡ e.0) ⊎ (i ≡ e.0 → ⊥) → (w : A) × (lookup i m ≡ some w) → (w : A) × (lookup i (e ∷ m) ≡ some w)
+    go : (i ≡ e.0) ⊎ (i ≡ e.0 → ⊥) → (w : A) × (lookup i m ≡ Some w) → (w : A) × (lookup i (e ∷ m) ≡ Some w)
     go (inl p) r = (e.1, lookup_here i e m p)
     go (inr p) r = (r.0, lookup_past i e m p ∙ r.1)
 
@@ -130,7 +130,7 @@ module _ (b : Book) (F : ForestBook b) where
         (λ r.
             subst (λ (t : List (ℕ × ℕ)). (id, parent) ∈ t) (sym same)
             (lookup_mem id (made parent_word (snapshots b)) parent
-            (ap (λ (i : ℕ). lookup i (made parent_word (snapshots b))) (sym r.2) ∙ made_at parent_word (snapshots b) fits F.snapshots_distinct r.0 r.1 ∙ ap some r.3))),
+            (ap (λ (i : ℕ). lookup i (made parent_word (snapshots b))) (sym r.2) ∙ made_at parent_word (snapshots b) fits F.snapshots_distinct r.0 r.1 ∙ ap Some r.3))),
       )
 
   -- so the parents of a forest book are true, with the mark and without
@@ -145,14 +145,14 @@ module _ (b : Book) (F : ForestBook b) where
   pub parents_read : Reads (parents_of b) (snapshots b) parent_word
   parents_read = record { at = at; from = from }
     where
-      from : (i p : ℕ) → lookup i (parents_of b) ≡ some p → (k : Bkey) × (k ∈ snapshots b) × (k.offset ≡ i) × (parent_word k ≡ p)
+      from : (i p : ℕ) → lookup i (parents_of b) ≡ Some p → (k : Bkey) × (k ∈ snapshots b) × (k.offset ≡ i) × (parent_word k ≡ p)
       from i p h = (parents_true i p).0 (lookup_mem i (parents_of b) p h)
 
-      at : (k : Bkey) → k ∈ snapshots b → lookup k.offset (parents_of b) ≡ some (parent_word k)
+      at : (k : Bkey) → k ∈ snapshots b → lookup k.offset (parents_of b) ≡ Some (parent_word k)
       at k m =
           let r = mem_lookup k.offset (parent_word k) (parents_of b) ((parents_true k.offset (parent_word k)).1 (k, m, refl, refl)) in
           let u = from k.offset r.0 r.1 in
-          r.1 ∙ ap some (sym u.3 ∙ ap parent_word (snapshot_same u.0 k u.1 m u.2))
+          r.1 ∙ ap Some (sym u.3 ∙ ap parent_word (snapshot_same u.0 k u.1 m u.2))
 
   pub trees_of_read : Reads (tree_of_map b) (snapshots b) tree_word
   unfolding tree_of_map map_of

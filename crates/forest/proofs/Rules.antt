@@ -1,10 +1,11 @@
 -- In a forest book each rule reports no forest kind exactly if its part of `Sound` holds.
+use Rattle.std.specs.Prelude.{None, Option, Some}
 use Prim.Native.Nat.{ℕ}
 use mathlib.Core.Bool.{Bool, true, false, not}
 use mathlib.Core.Logic.{◌⊎◌, inl, inr, ◌↔◌}
 use mathlib.Core.List.Memᴰ
 use mathlib.Core.List.{List, ◌∷◌, ◌++◌}
-use mathlib.Core.Option.{Option, none, some, some-injective}
+use Rattle.std.proofs.lemmas.Option.{same_Some}
 use mathlib.Core.Path.{◌≡◌, refl, ap, sym, subst, ◌∙◌}
 use native.Mathlib.Omega.{arith}
 use borrow.Author.Tests.{eq-eqb, not-false}
@@ -50,14 +51,14 @@ in45 = true_has 45 forest_kinds refl
 -- kinds 31 and 40 are no forest kinds
 master_absent : (m : List (ℕ × ℕ)) (id w : ℕ) (o : Option ℕ) → Absent (master_findings m id w o)
 unfolding master_findings has when
-master_absent m id w none = absent_other true 31 id w refl
-master_absent m id w (some x) = absent_other (is_other id (lookup x m)) 40 id w refl
+master_absent m id w None = absent_other true 31 id w refl
+master_absent m id w (Some x) = absent_other (is_other id (lookup x m)) 40 id w refl
 
 -- the tests of a snapshot key, all passed
 record Passed (b : Book) (s : Bkey) (id : ℕ) (root : Option (ℕ × ℕ)) (ids : List ℕ) : Type 0 where
   tree : names_root (lookup (tree_word s) (tree_map b)) root ≡ true
   depth : wrong_depth (depth_word s) root ≡ false
-  children : (w : ℕ) → w ∈ child_words s → (w ≡ 0 → ⊥) → lookup w (parents_of b) ≡ some id
+  children : (w : ℕ) → w ∈ child_words s → (w ≡ 0 → ⊥) → lookup w (parents_of b) ≡ Some id
   skips : (w : ℕ) → w ∈ skip_words s → (w ≡ 0 → ⊥) → w ∈ (id ∷ ids)
 
 -- what a snapshot gives, by its id, its root and what stands above it
@@ -80,7 +81,7 @@ module _ (b : Book) (s : Bkey) (id : ℕ) where
   unfolding backref_findings has
   backref_part snap = absent_other _ 43 _ _ refl
 
-  child_part : Absent (child_findings s id (parents_of b)) ↔ ((w : ℕ) → w ∈ child_words s → (w ≡ 0 → ⊥) → lookup w (parents_of b) ≡ some id)
+  child_part : Absent (child_findings s id (parents_of b)) ↔ ((w : ℕ) → w ∈ child_words s → (w ≡ 0 → ⊥) → lookup w (parents_of b) ≡ Some id)
   unfolding child_findings bad_child
   child_part = (
     (λ h w m n. (is_some id (lookup w (parents_of b))).0 ((zero_or w (is_the id (lookup w (parents_of b)))).0 ((absent_when _ 44 id w in44).0 ((absent_each found 0 (child_words s)).0 h w m)) n)),
@@ -135,7 +136,7 @@ module _ (b : Book) (F : ForestBook b) where
           (absent_append _ _).1 (
             (absent_when _ 39 _ _ in39).1
                 (ap not ((is_some _ _).1
-                (ap (λ (i : ℕ). lookup i (tree_of_map b)) (sym n.2) ∙ (trees_of_read b F).at n.0 n.1 ∙ ap some n.3))),
+                (ap (λ (i : ℕ). lookup i (tree_of_map b)) (sym n.2) ∙ (trees_of_read b F).at n.0 n.1 ∙ ap Some n.3))),
             master_absent _ _ _ _,
           )
 
@@ -165,13 +166,13 @@ module _ (b : Book) (F : ForestBook b) where
   chain_skip n s r a m l z (inl e) = Memᴰ.head (ap (λ (k : Bkey). k.offset) (sym e))
   chain_skip n s r a m l z (inr h) = Memᴰ.tail (ancestor_up b F n h.0 s r a m l z h.1)
 
-  passed_sound : (s : Bkey) → s ∈ snapshots b → (y : ℕ × ℕ) → root_of (parents_of b) s.offset ≡ some y → PassedAt s (some y) → SoundAt s
+  passed_sound : (s : Bkey) → s ∈ snapshots b → (y : ℕ × ℕ) → root_of (parents_of b) s.offset ≡ Some y → PassedAt s (Some y) → SoundAt s
   unfolding PassedAt
   passed_sound s m y e p =
-      let n = names_root_lem (lookup (tree_word s) (tree_map b)) (some y) p.tree in
+      let n = names_root_lem (lookup (tree_word s) (tree_map b)) (Some y) p.tree in
       let f = found_root b F s m y.0 y.1 e in
       let t = (trees_read b F).from (tree_word s) n.0 n.2 in
-      let q : n.1 ≡ y = some-injective n.1 y (sym n.3) in
+      let q : n.1 ≡ y = same_Some n.1 y (sym n.3) in
       let w : root_word t.0 ≡ f.0.offset =
       ap (λ (x : ℕ × ℕ). x.1) t.3 ∙ n.4 ∙ ap (λ (x : ℕ × ℕ). x.0) q ∙ sym f.3 in
       let ids = above_up (parents_of b) s.offset y e in
@@ -187,7 +188,7 @@ module _ (b : Book) (F : ForestBook b) where
         skips = λ w i z. skip_chain y.1 s f.0 m f.1 w (Memᴰ.cases_cons (subst (λ (l : List ℕ). w ∈ (s.offset ∷ l)) ids (p.skips w i z)));
       }
 
-  sound_passed : (s : Bkey) → s ∈ snapshots b → SoundAt s → (y : ℕ × ℕ) × (root_of (parents_of b) s.offset ≡ some y) × PassedAt s (some y)
+  sound_passed : (s : Bkey) → s ∈ snapshots b → SoundAt s → (y : ℕ × ℕ) × (root_of (parents_of b) s.offset ≡ Some y) × PassedAt s (Some y)
   unfolding PassedAt names_root
   sound_passed s m p =
       let r = p.roots.0 in
@@ -196,7 +197,7 @@ module _ (b : Book) (F : ForestBook b) where
       let t = p.roots.4 in
       let root = root_found b F n s r m R.reaches R.parentless R.within in
       let ids = above_up (parents_of b) s.offset (r.offset, n) root in
-      let named : lookup (tree_word s) (tree_map b) ≡ some (record_words t.0) =
+      let named : lookup (tree_word s) (tree_map b) ≡ Some (record_words t.0) =
       ap (λ (i : ℕ). lookup i (tree_map b)) (sym t.2) ∙ (trees_read b F).at t.0 t.1 in (
         (r.offset, n),
         root,
@@ -205,7 +206,7 @@ module _ (b : Book) (F : ForestBook b) where
           depth = (depth_right (r.offset, n) (depth_word s)).1 p.roots.3;
           children = λ w i z.
               let c = p.children w i z in
-              ap (λ (j : ℕ). lookup j (parents_of b)) (sym c.2) ∙ (parents_read b F).at c.0 c.1 ∙ ap some c.3;
+              ap (λ (j : ℕ). lookup j (parents_of b)) (sym c.2) ∙ (parents_read b F).at c.0 c.1 ∙ ap Some c.3;
           skips = λ w i z.
               let a = p.skips w i z in
               subst (λ (l : List ℕ). w ∈ (s.offset ∷ l)) (sym ids)
@@ -242,7 +243,7 @@ module _ (b : Book) (F : ForestBook b) where
       trees = each (λ _ e. tree_findings b e) 0 (tree_map b)
 
   -- "In a forest book a snapshot without a root always gives kind 41 or 42, whatever its other words hold": it gives 41
-  pub rootless : (s : Bkey) → s ∈ snapshots b → root_of (parents_of b) s.offset ≡ none → finding 41 s.offset (tree_word s) ∈ snapshot_links b
+  pub rootless : (s : Bkey) → s ∈ snapshots b → root_of (parents_of b) s.offset ≡ None → finding 41 s.offset (tree_word s) ∈ snapshot_links b
   unfolding root_findings when snapshot_findings
   rootless s m e =
       subst (λ (l : List Finding). finding 41 s.offset (tree_word s) ∈ l) (sym links_are)

@@ -8,6 +8,10 @@ use native.Mathlib.Omega.{arith}
 use Rattle.search.specs.Bound.{LowerBound}
 use Rattle.book.specs.Maps.{lookup}
 use Rattle.book.specs.declared.Table.{Table}
+use Rattle.book.specs.declared.open.Book.{Book}
+use Rattle.book.specs.Book.{whole_rest, gens_table, entry_at, book_of}
+use Rattle.book.proofs.Walk.{parts}
+use Rattle.tables.proofs.Found.{found_at, found_none}
 use Rattle.book.specs.Walk.{first_at, Rising}
 use Rattle.gens.specs.BucketGensAgainstAlloc.{or_zero, bucket_of, gen_at}
 use Rattle.gens.specs.Steps.{gen_of}
@@ -54,3 +58,18 @@ unfolding gen_at bucket_of
 gen_is gens offset i {b} {x} {y} {e} p q r =
     let low : b ≡ offset * 256 % 2 ^ 64 + i = omega arith in
     rw (r, low, q)
+
+-- what the table of a book gives a bucket: at its place stands an entry with it, or the table has none
+module _ (b : Book) {x at : ℕ} (bound : LowerBound (first_at gens_table b.bytes.now b.places.gens) b.header.gens x at) where
+  pub gen_found : at < b.header.gens → first_at gens_table b.bytes.now b.places.gens at ≡ x → {g : ℕ}
+      → g ≡ (entry_at gens_table b.bytes.now (b.places.gens + at * 9)).rest → g ≡ or_zero (lookup x (book_of b.bytes.now).gens)
+  unfolding or_zero
+  gen_found l here g =
+      let p = parts b.opened in
+      rw (g, p.gens, found_at whole_rest gens_table b.bytes.now b.header.gens b.places.gens x at bound p.gens_rise l here)
+
+  pub gen_none : (at < b.header.gens → first_at gens_table b.bytes.now b.places.gens at ≡ x → ⊥) → 0 ≡ or_zero (lookup x (book_of b.bytes.now).gens)
+  unfolding or_zero
+  gen_none other =
+      let p = parts b.opened in
+      rw (p.gens, found_none whole_rest gens_table b.bytes.now b.header.gens b.places.gens x at bound p.gens_rise other)

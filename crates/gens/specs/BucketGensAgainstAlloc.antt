@@ -1,14 +1,13 @@
 -- The rule `bucket_gens_against_alloc` (document 01, kind 46): subject a bucket, object "recorded generation, or without a key the alloc one".
-use Rattle.std.specs.Prelude.{ℕ, ◌+◌, ◌*◌, ◌/◌, ◌%◌, ◌^◌, Bool, false, not, ◌&&◌, ◌||◌, List, [], ◌∷◌, ◌++◌, take, eqb}
-use Rattle.std.proofs.Math.Option.{Option, none, some}
+use Rattle.std.specs.Prelude.{ℕ, ◌+◌, ◌*◌, ◌/◌, ◌%◌, ◌^◌, Bool, false, not, ◌&&◌, ◌||◌, List, [], ◌∷◌, ◌++◌, take, eqb, None, Option, Some}
 use Rattle.findings.specs.Findings.{Finding, finding, when, only, each}
 use Rattle.book.specs.Maps.{lookup}
 use Rattle.book.specs.Book.{Bkey, Book, is}
 
 -- a generation that is not there is 0
 unfoldable pub or_zero : Option ℕ → ℕ
-or_zero none = 0
-or_zero (some generation) = generation
+or_zero None = 0
+or_zero (Some generation) = generation
 
 -- a bucket_gens key (btree 14, type 30) of the book's device
 unfoldable pub is_gens : ℕ → Bkey → Bool

@@ -2,199 +2,148 @@
 #![tactic(auto)]
 
 ghost use Rattle.std.specs.Prelude.{◌≡◌, ◌++◌, ◌+◌, ◌*◌, ◌^◌, ◌<◌, ◌≤◌, length, take};
-ghost use Rattle.findings.specs.Findings.{sink, Found, Added, each};
-ghost use Rattle.pairs.specs.Pairs.{pairs_of, pair, has, Sorted};
+ghost use Rattle.findings.specs.Findings.{each};
+ghost use Rattle.findings.specs.Reports.{Reports};
+ghost use Rattle.pairs.specs.Pairs.{pairs_of, pair, has};
 ghost use Rattle.book.specs.Maps.{lookup};
-ghost use Rattle.book.specs.Book.{gens_table, gens_from, book_of};
-ghost use Rattle.book.specs.Walk.{Opened, Rising, first_at};
+ghost use Rattle.book.specs.Book.{gens_table, entry_at, book_of};
+ghost use Rattle.book.specs.Turns.{held};
+ghost use Rattle.book.specs.Walk.{first_at};
 ghost use Rattle.search.specs.Bound.{LowerBound};
-ghost use Rattle.walk.specs.Keys.{key_at, AtKey, gather};
+ghost use Rattle.walk.specs.Keys.{gather};
 ghost use Rattle.gens.specs.BucketGensAgainstAlloc.{or_zero, is_gens, gen_at, gens_of_key, bucket_gens_against_alloc};
 ghost use Rattle.gens.specs.Steps.{gen_of, uncovered_of, key_gens, cover_pair, not_covered};
 
-use book::{Header, KeyFront, Places};
-use findings::{emit_if, start_of};
+use book::names::{btree_id, key_type};
+use book::open::{Book, Key};
+use findings::kind::Kind;
+use findings::report::Report;
+use pairs::SortedPairs;
 
-// A place in a gens table, and a generation.
+// An entry of the gens table: a bucket, and its generation.
+#[derive(Clone, Copy)]
+struct Entry {
+    bucket: u64,
+    generation: u8,
+}
+
+// The entry at byte p.
+#[inline]
+fn entry_at(book: &[u8], p: usize) -> Entry
+    requires { (length book.now ≤ 1048576) × (p + 9 ≤ length book.now) }
+    ensures { (result.bucket ≡ (entry_at gens_table book.now p).first) × (result.generation ≡ (entry_at gens_table book.now p).rest) }
+{
+    Entry {
+        bucket: bits::be64(book, p),
+        generation: book[p + 8],
+    }
+}
+
+// A place in the gens table, and a generation.
 #[derive(Clone, Copy)]
 struct Gen {
     at: usize,
     generation: u8,
 }
 
-// The generation that a gens table gives a bucket, 0 where it has none, and the place of the next bucket, by the place of this one.
-fn next_gen(book: &[u8], start: usize, count: usize, at: usize, bucket: u64) -> Gen
-    requires { Rising gens_table book.now start count × LowerBound (first_at gens_table book.now start) count bucket at }
-    ensures generation { result.generation ≡ or_zero (lookup bucket (gens_from book.now count start)) }
-    ensures next { LowerBound (first_at gens_table book.now start) count (bucket + 1) result.at }
+// The generation that the gens table gives a bucket, 0 where it has none, and the place of the next bucket, by the place of this one.
+fn next_gen(book: &Book<'_>, at: usize, bucket: u64) -> Gen
+    requires { LowerBound (first_at gens_table book.now.bytes.now book.now.places.gens) book.now.header.gens bucket at }
+    ensures generation { result.generation ≡ or_zero (lookup bucket (book_of book.now.bytes.now).gens) }
+    ensures next { LowerBound (first_at gens_table book.now.bytes.now book.now.places.gens) book.now.header.gens (bucket + 1) result.at }
 {
-    if at == count {
+    if at == book.header.gens as usize {
         return Gen { at, generation: 0 };
     }
-    let p = start + at * 9;
-    if bits::be64(book, p) == bucket {
+    let entry = entry_at(book.bytes, book.places.gens + at * 9);
+    if entry.bucket == bucket {
         return Gen {
             at: at + 1,
-            generation: book[p + 8],
+            generation: entry.generation,
         };
     }
     Gen { at, generation: 0 }
 }
 
-// What a recorded generation of a bucket gives, after n findings.
-fn gen_at(
-    bucket: u64,
-    recorded: u8,
-    expected: u8,
-    out: &mut [u8],
-    counts: &mut [u64],
-    n: usize,
-) -> usize
-    requires { n < 2 ^ 62 }
-    ensures added { Added (sink out.old counts.old) n (gen_of bucket recorded expected) result (sink out.new counts.new) }
-    ensures few { result ≤ n + 1 }
+// The finding of a recorded generation of a bucket.
+fn show_gen(bucket: u64, recorded: u8, expected: u8, report: &mut Report<'_>)
+    requires { report.old.found < 2 ^ 62 }
+    ensures reports { Reports report.old (gen_of bucket recorded expected) report.new }
+    ensures few { report.new.found ≤ report.old.found + 1 }
 {
-    emit_if(
-        out,
-        counts,
-        n,
+    report.emit_if(
         recorded != expected,
-        46,
+        Kind::IncorrectGenInBucketGens,
         bucket,
         recorded as u64,
-    )
+    );
 }
 
-// What the first 256 bytes of a value at `offset` give: a merge with the gens table.
-fn gens_of_value(
-    book: &[u8],
-    start: usize,
-    count: usize,
-    offset: u64,
-    value: &[u8],
-    out: &mut [u8],
-    counts: &mut [u64],
-) -> usize
-    requires { Rising gens_table book.now start count }
-    ensures found { Found (sink out.old counts.old) (each (gen_at (gens_from book.now count start) offset) 0 (take 256 value.now)) result (sink out.new counts.new) }
-    ensures few { result ≤ 256 }
+// The findings of the first 256 bytes of a value at `offset`: a merge with the gens table.
+fn show_value(book: &Book<'_>, offset: u64, value: &[u8], report: &mut Report<'_>)
+    requires { report.old.found < 2 ^ 61 }
+    ensures reports { Reports report.old (each (gen_at (book_of book.now.bytes.now).gens offset) 0 (take 256 value.now)) report.new }
+    ensures few { report.new.found ≤ report.old.found + 256 }
 {
-    let end = bits::least(value.len(), 256);
+    let count = book.header.gens as usize;
     let base = offset % 0x100_0000_0000_0000 * 256;
-    let mut at = tables::gens_from(book, start, count, base);
-    let mut n: usize = 0;
-    let mut i: usize = 0;
-    while i < end {
-        let bucket = base + (i as u64);
-        let g = next_gen(book, start, count, at, bucket);
-        n = gen_at(bucket, value[i], g.generation, out, counts, n);
-        at = g.at;
-        i += 1;
+    let mut at = tables::gens_from(book.bytes, book.places.gens, count, base);
+    for i in 0..value.len().min(256) {
+        let bucket = base + i as u64;
+        let next = next_gen(book, at, bucket);
+        show_gen(bucket, value[i], next.generation, report);
+        at = next.at;
     }
-    n
 }
 
-// Whether the key at byte p with the front f is a bucket_gens key of the device.
-fn is_gens(book: &[u8], device: u64, p: usize, f: KeyFront) -> bool
-    requires { AtKey book.now p f }
-    ensures { result ≡ is_gens device (key_at book.now p) }
+// Whether a key is a bucket_gens key of the device.
+fn is_gens(device: u64, key: Key<'_>) -> bool
+    ensures { result ≡ is_gens device (held key.entry) }
 {
-    if (f.btree == 14) & (f.key_type == 30) {
-        return walk::key_inode(book, p, f) == device;
+    if key.is(btree_id::BUCKET_GENS, key_type::BUCKET_GENS) {
+        return key.inode() == device;
     }
     false
 }
 
-// What the value of the key at byte p with the front f gives, after n findings.
-fn key_gens(
-    book: &[u8],
-    h: Header,
-    at: Places,
-    p: usize,
-    f: KeyFront,
-    out: &mut [u8],
-    counts: &mut [u64],
-    n: usize,
-) -> usize
-    requires { Opened book.now h at × AtKey book.now p f × (n < 2 ^ 62) }
-    ensures added { Added (sink out.old counts.old) n (gens_of_key (book_of book.now).gens (key_at book.now p)) result (sink out.new counts.new) }
-    ensures few { result ≤ n + 256 }
-{
-    let start = p + 28;
-    let end = start + f.len;
-    let offset = walk::key_offset(book, p, f);
-    let from = start_of(out.len(), n);
-    n + gens_of_value(
-        book,
-        at.gens,
-        h.gens as usize,
-        offset,
-        &book[start..end],
-        &mut out[from..],
-        counts,
-    )
-}
-
-// A number of findings, and a number of pairs.
-#[derive(Clone, Copy)]
-struct Counts {
-    found: usize,
-    put: usize,
-}
-
-// What the key at byte p with the front f gives, if it is a bucket_gens key of the device: its findings after those counted, and the pair
-// of the offset that it covers behind those counted.
+// The findings of a key, if it is a bucket_gens key of the device; puts the pair of the offset that it covers behind the first n pairs then, and returns
+// their number with it.
 fn take_gens(
-    book: &[u8],
-    h: Header,
-    at: Places,
-    p: usize,
-    f: KeyFront,
-    out: &mut [u8],
-    counts: &mut [u64],
+    book: &Book<'_>,
+    key: Key<'_>,
+    n: usize,
     work: &mut [u64],
-    c: Counts,
-) -> Counts
-    requires { Opened book.now h at × AtKey book.now p f × (c.found < 2 ^ 62) × (2 * c.put + 2 ≤ length work.old) }
-    ensures added { Added (sink out.old counts.old) c.found (key_gens h.device (book_of book.now).gens (key_at book.now p)) result.found (sink out.new counts.new) }
-    ensures put { pairs_of work.new result.put ≡ pairs_of work.old c.put ++ cover_pair h.device p (key_at book.now p) }
-    ensures few { (result.found ≤ c.found + 256) × (result.put ≤ c.put + 1) }
+    report: &mut Report<'_>,
+) -> usize
+    requires room { 2 * n + 2 ≤ length work.old }
+    requires found { report.old.found < 2 ^ 61 }
+    ensures reports { Reports report.old (key_gens book.now.header.device (book_of book.now.bytes.now).gens (held key.entry)) report.new }
+    ensures put { pairs_of work.new result ≡ pairs_of work.old n ++ cover_pair book.now.header.device key.entry.at (held key.entry) }
+    ensures few { (report.new.found ≤ report.old.found + 256) × (result ≤ n + 1) }
 {
-    if is_gens(book, h.device, p, f) {
-        let found = key_gens(book, h, at, p, f, out, counts, c.found);
-        pairs::put_pair(work, c.put, walk::key_offset(book, p, f), 0);
-        return Counts {
-            found,
-            put: c.put + 1,
-        };
+    if !is_gens(book.header.device, key) {
+        return n;
     }
-    c
+    let offset = key.offset();
+    show_value(book, offset, key.value(), report);
+    pairs::put_pair(work, n, offset, 0);
+    n + 1
 }
 
-// What the bucket_gens keys of the device give, and a pair for each.
-fn gens_of_keys(
-    book: &[u8],
-    h: Header,
-    at: Places,
-    out: &mut [u8],
-    counts: &mut [u64],
-    work: &mut [u64],
-) -> Counts
-    requires { Opened book.now h at × (2 * h.keys ≤ length work.old) }
-    ensures found { Found (sink out.old counts.old) (each (λ _ k. key_gens h.device (book_of book.now).gens k) 0 (book_of book.now).keys) result.found (sink out.new counts.new) }
-    ensures put { pairs_of work.new result.put ≡ gather (cover_pair h.device) book.now h.keys at.keys }
-    ensures few { (result.found ≤ h.keys * 256) × (result.put ≤ h.keys) }
+// The findings of the bucket_gens keys of the device; puts a pair for each, and returns their number.
+// One pass over the keys does both: a second one to put the pairs would cost as much again.
+fn take_keys(book: Book<'_>, work: &mut [u64], report: &mut Report<'_>) -> usize
+    requires room { 2 * book.header.keys ≤ length work.old }
+    requires found { report.old.found < 2 ^ 60 }
+    ensures reports { Reports report.old (each (λ _ k. key_gens book.entry.header.device (book_of book.entry.bytes.now).gens k) 0 (book_of book.entry.bytes.now).keys) report.new }
+    ensures put { pairs_of work.new result ≡ gather (cover_pair book.entry.header.device) book.entry.bytes.now book.entry.header.keys book.entry.places.keys }
+    ensures few { (report.new.found ≤ report.old.found + book.entry.header.keys * 256) × (result ≤ book.entry.header.keys) }
 {
-    let mut c = Counts { found: 0, put: 0 };
-    let mut left = h.keys;
-    let mut p = at.keys;
-    while 0 < left {
-        let f = book::key_front(book, p);
-        c = take_gens(book, h, at, p, f, out, counts, work, c);
-        p = p + 28 + f.len;
-        left -= 1;
+    let mut n = 0;
+    for key in book.keys() {
+        n = take_gens(&book, key, n, work, report);
     }
-    c
+    n
 }
 
 // A number of 256 buckets, and whether a key covers them.
@@ -204,97 +153,56 @@ struct Cover {
     covered: bool,
 }
 
-// Whether a block is covered, where the first n pairs, which are sorted, are the offsets covered, by what is known of the block before.
-fn cover_of(work: &[u64], n: usize, c: Cover, block: u64) -> Cover
-    requires { (2 * n ≤ length work.now) × Sorted (pairs_of work.now n) × (c.covered ≡ has (pair c.block 0) (pairs_of work.now n)) }
-    ensures { (result.block ≡ block) × (result.covered ≡ has (pair block 0) (pairs_of work.now n)) }
+// Whether a block is covered, where the pairs are the offsets covered, by what is known of the block before.
+fn cover_of(covers: SortedPairs<'_>, c: Cover, block: u64) -> Cover
+    requires { c.covered ≡ has (pair c.block 0) (pairs_of covers.words.now covers.count) }
+    ensures { (result.block ≡ block) × (result.covered ≡ has (pair block 0) (pairs_of covers.entry.words.now covers.entry.count)) }
 {
     if c.block == block {
         return c;
     }
-    let covered = pairs::has_pair(work, n, block, 0);
+    let covered = covers.has(block, 0);
     Cover { block, covered }
 }
 
-// What a bucket's generation gives, after m findings.
-fn uncovered_at(
-    bucket: u64,
-    generation: u32,
-    covered: bool,
-    out: &mut [u8],
-    counts: &mut [u64],
-    m: usize,
-) -> usize
-    requires { m < 2 ^ 62 }
-    ensures added { Added (sink out.old counts.old) m (uncovered_of covered bucket generation) result (sink out.new counts.new) }
-    ensures few { result ≤ m + 1 }
+// The finding of a bucket's generation, if no key covers the bucket.
+fn show_uncovered(bucket: u64, generation: u8, covered: bool, report: &mut Report<'_>)
+    requires { report.old.found < 2 ^ 62 }
+    ensures reports { Reports report.old (uncovered_of covered bucket generation) report.new }
+    ensures few { report.new.found ≤ report.old.found + 1 }
 {
-    emit_if(
-        out,
-        counts,
-        m,
+    report.emit_if(
         (generation != 0) & !covered,
-        46,
+        Kind::IncorrectGenInBucketGens,
         bucket,
         generation as u64,
-    )
+    );
 }
 
-// What the `count` entries of a gens table from byte `start` on give, by the first n pairs, which are sorted.
-fn show_uncovered(
-    book: &[u8],
-    start: usize,
-    count: usize,
-    work: &[u64],
-    n: usize,
-    out: &mut [u8],
-    counts: &mut [u64],
-) -> usize
-    requires { Rising gens_table book.now start count × (count < 2 ^ 32) × (2 * n ≤ length work.now) × Sorted (pairs_of work.now n) }
-    ensures found { Found (sink out.old counts.old) (each (λ _ e. not_covered (pairs_of work.now n) e.0 e.1) 0 (gens_from book.now count start)) result (sink out.new counts.new) }
-    ensures few { result ≤ count }
+// The findings of the entries of the gens table, by the pairs of the offsets covered.
+fn show_table(book: Book<'_>, covers: SortedPairs<'_>, report: &mut Report<'_>)
+    requires { report.old.found < 2 ^ 60 }
+    ensures reports { Reports report.old (each (λ _ e. not_covered (pairs_of covers.entry.words.now covers.entry.count) e.0 e.1) 0 (book_of book.entry.bytes.now).gens) report.new }
+    ensures few { report.new.found ≤ report.old.found + book.entry.header.gens }
 {
-    let covered = pairs::has_pair(work, n, 0, 0);
+    let covered = covers.has(0, 0);
     let mut c = Cover { block: 0, covered };
-    let mut found: usize = 0;
-    let mut left = count;
-    let mut p = start;
-    while 0 < left {
-        let bucket = bits::be64(book, p);
-        let generation = bits::byte(book, p + 8);
-        c = cover_of(work, n, c, bucket / 256);
-        found = uncovered_at(bucket, generation, c.covered, out, counts, found);
-        p += 9;
-        left -= 1;
+    for i in 0..book.header.gens as usize {
+        let entry = entry_at(book.bytes, book.places.gens + i * 9);
+        c = cover_of(covers, c, entry.bucket / 256);
+        show_uncovered(entry.bucket, entry.generation, c.covered, report);
     }
-    found
 }
 
 // The findings of generations that differ: by the bucket_gens keys, then by the gens table where no key covers a bucket.
-pub fn bucket_gens_against_alloc(
-    book: &[u8],
-    h: Header,
-    at: Places,
-    out: &mut [u8],
-    counts: &mut [u64],
-    work: &mut [u64],
-) -> usize
-    requires { Opened book.now h at × (2 * h.keys ≤ length work.old) }
-    ensures found { Found (sink out.old counts.old) (bucket_gens_against_alloc (book_of book.now)) result (sink out.new counts.new) }
-    ensures few { result ≤ h.keys * 256 + h.gens }
+pub fn bucket_gens_against_alloc(book: Book<'_>, work: &mut [u64], report: &mut Report<'_>)
+    requires room { 2 * book.header.keys ≤ length work.old }
+    requires found { report.old.found < 2 ^ 58 }
+    ensures reports { Reports report.old (bucket_gens_against_alloc (book_of book.entry.bytes.now)) report.new }
+    ensures few { report.new.found ≤ report.old.found + book.entry.header.keys * 256 + book.entry.header.gens }
 {
-    let keys = gens_of_keys(book, h, at, out, counts, work);
-    let n = keys.found;
-    let covers = keys.put;
-    sorting::sort_pairs(work, covers);
-    let from = start_of(out.len(), n);
-    n + show_uncovered(
-        book,
-        at.gens,
-        h.gens as usize,
-        work,
-        covers,
-        &mut out[from..],
-        counts,
-    )
+    let count = take_keys(book, work, report);
+    sorting::sort_pairs(work, count);
+    let covers = SortedPairs::new(work, count);
+    show_table(book, covers, report);
 }

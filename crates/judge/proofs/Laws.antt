@@ -1,12 +1,16 @@
 -- The rules one after the other.
-use Prim.Native.Nat.{ℕ}
-use mathlib.Core.Path.{◌≡◌, ap, ◌∙◌}
+use Prim.Native.Nat.{ℕ, ◌<◌, ◌^◌}
+use mathlib.Core.Path.{◌≡◌, refl, ap, ◌∙◌}
 use mathlib.Core.Bool.{false, not}
 use mathlib.Core.List.{List, [], ◌++◌, append_assoc}
+use lib.ListN.{length}
 use lib.Dec.{eqb}
+use native.Mathlib.Omega.{arith}
 use borrow.Author.Tests.{eqb-true, not-false}
-use Rattle.findings.specs.Findings.{Finding, Sink, Found, each}
-use Rattle.findings.proofs.Laws.{none}
+use Rattle.findings.specs.declared.report.Report.{Report}
+use Rattle.findings.specs.Findings.{Finding, sink, put, Found, Counted, each}
+use Rattle.findings.specs.Reports.{Reports}
+use Rattle.findings.proofs.Laws.{found_counted}
 use Rattle.book.specs.declared.Header.{Header}
 use Rattle.book.specs.declared.Places.{Places}
 use Rattle.book.specs.Book.{table_from, Book, book_of}
@@ -21,9 +25,12 @@ use Rattle.keys.specs.KeyFindings.{key_findings}
 use Rattle.rules.specs.Rules.{findings_of}
 use Rattle.judge.specs.Steps.{subvolume_rules, snapshot_rules, first_rules, last_rules, across_rules}
 
--- nothing is found, and nothing is written
-pub found_none : {o : Sink} {fs : List Finding} → fs ≡ [] → Found o fs 0 o
-found_none {o} e = rw e (none o)
+-- what is reported is counted by kind
+pub reports_counted : {r s : Report} {fs : List Finding} → Reports r fs s → s.found < 2 ^ 64 → Counted r.counts.now fs s.counts.now
+reports_counted {r} {s} {fs} a few =
+    let whole : Found (sink [] r.counts.now) fs (length fs) (sink (put [] fs) s.counts.now) =
+    record { count = refl; buffer = refl; counts = a.added.counts; encodable = a.added.encodable } in
+    found_counted whole (omega (arith, a.added.count))
 
 -- the parts are the whole list
 pub list_of : (b : Book) → each (key_findings b) 0 b.keys ++ across_rules b ≡ findings_of b

@@ -21,10 +21,9 @@ use Rattle.keys.specs.KeyFindings.{key_rules}
 use Rattle.keys.proofs.Others.{judged, fields_none, states_none}
 
 -- rows of btrees and types, none of them foreign
-none_foreign : List ℕ → Bool
+none_foreign : List (ℕ × ℕ) → Bool
 none_foreign [] = true
-none_foreign (b ∷ []) = true
-none_foreign (b ∷ t ∷ rows) = not (foreign_type b t) && none_foreign rows
+none_foreign (row ∷ rows) = not (foreign_type row.0 row.1) && none_foreign rows
 
 module _ (k : Bkey) (foreign : foreign_type k.btree k.key_type ≡ true) where
   not_pair : (b t : ℕ) → foreign_type b t ≡ false → eqb b k.btree && eqb t k.key_type ≡ false
@@ -35,13 +34,12 @@ module _ (k : Bkey) (foreign : foreign_type k.btree k.key_type ≡ true) where
       (λ h. h)
       (tested (eqb b k.btree && eqb t k.key_type))
 
-  not_row : (rows : List ℕ) → none_foreign rows ≡ true → has_row rows k.btree k.key_type ≡ false
+  not_row : (rows : List (ℕ × ℕ)) → none_foreign rows ≡ true → has_row rows k.btree k.key_type ≡ false
   unfolding none_foreign has_row
   not_row [] e = refl
-  not_row (b ∷ []) e = refl
-  not_row (b ∷ t ∷ rows) e =
-      let both = both_true (not (foreign_type b t)) (none_foreign rows) e in
-      rw (not_pair b t (not-true (foreign_type b t) both.0), not_row rows both.1) refl
+  not_row (row ∷ rows) e =
+      let both = both_true (not (foreign_type row.0 row.1)) (none_foreign rows) e in
+      rw (not_pair row.0 row.1 (not-true (foreign_type row.0 row.1) both.0), not_row rows both.1) refl
 
   not_judged : has_row judged k.btree k.key_type ≡ false
   unfolding none_foreign judged foreign_type outside lookup has key_types_allowed key_types_anywhere

@@ -1,5 +1,5 @@
--- For this crate and those that link it: `Laws` has rules one after the other, `Foreign` keys of foreign types.
-pub mod Laws
+-- For this crate and those that link it: `Foreign` has keys of foreign types.
+mod Laws
 pub mod Foreign
 mod Others
 mod Quiet

@@ -15,9 +15,9 @@ use Rattle.fields.specs.CheckKeyFields.{has_row, minimum_value, check_position, 
 use Rattle.fields.specs.Steps.{size_bad, snapshot_bad}
 use Rattle.states.specs.CheckStateWords.{check_state_words}
 
--- the btrees and types that these rules judge by more than a size and a snapshot, two numbers a row
-unfoldable pub judged : List ℕ
-judged = 0 ∷ 15 ∷ 1 ∷ 29 ∷ 3 ∷ 11 ∷ 4 ∷ 27 ∷ 7 ∷ 16 ∷ 8 ∷ 21 ∷ 9 ∷ 22 ∷ 13 ∷ 28 ∷ 15 ∷ 31 ∷ 17 ∷ 35 ∷ 20 ∷ 34 ∷ []
+-- the btrees and types that these rules judge by more than a size and a snapshot, a row each
+unfoldable pub judged : List (ℕ × ℕ)
+judged = (0, 15) ∷ (1, 29) ∷ (3, 11) ∷ (4, 27) ∷ (7, 16) ∷ (8, 21) ∷ (9, 22) ∷ (13, 28) ∷ (15, 31) ∷ (17, 35) ∷ (20, 34) ∷ []
 
 module _ (k : Bkey) (none : has_row judged k.btree k.key_type ≡ false) where
   other : (b t : ℕ) → has_row judged b t ≡ true → is b t k ≡ false

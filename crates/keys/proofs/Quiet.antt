@@ -1,17 +1,15 @@
 -- A key of which the rules on one key say nothing.
-use Prim.Native.Nat.{ℕ, ◌+◌, ◌<◌}
+use Prim.Native.Nat.{ℕ, ◌+◌, ◌*◌}
 use mathlib.Core.Path.{◌≡◌, refl, sym, ◌∙◌}
 use mathlib.Core.Bool.{Bool, true, false, not, ◌&&◌, ◌||◌, and-false}
 use mathlib.Core.List.{List, [], ◌∷◌, ◌++◌}
-use lib.ListN.{get_or}
 use lib.Dec.{eqb}
-use borrow.Author.Tests.{eqb-true, not-true, not-false}
-use Rattle.bits.specs.Bits.{be_at}
+use borrow.Author.Tests.{eqb-true, not-true}
+use Rattle.bits.specs.Bits.{bits_at}
 use Rattle.findings.specs.Findings.{Finding, finding, when}
 use Rattle.book.specs.declared.KeyFront.{KeyFront}
 use Rattle.book.specs.Book.{Bkey, key_head, book_of}
 use Rattle.walk.specs.Keys.{key_at, AtKey}
-use Rattle.walk.proofs.Keys.{head_word}
 use Rattle.pairs.proofs.Order.{both_true}
 use Rattle.fields.specs.CheckKeyDevice.{elsewhere, check_key_device}
 use Rattle.fields.specs.CheckKeyFields.{has_row}
@@ -44,18 +42,16 @@ or_more false true c e = refl
 or_more false false c e = e
 
 -- no row has this type
-not_typed : ℕ → List ℕ → Bool
+not_typed : ℕ → List (ℕ × ℕ) → Bool
 not_typed t [] = true
-not_typed t (b ∷ []) = true
-not_typed t (b ∷ u ∷ rows) = not (eqb u t) && not_typed t rows
+not_typed t (row ∷ rows) = not (eqb row.1 t) && not_typed t rows
 
-no_row : (b t : ℕ) (rows : List ℕ) → not_typed t rows ≡ true → has_row rows b t ≡ false
+no_row : (b t : ℕ) (rows : List (ℕ × ℕ)) → not_typed t rows ≡ true → has_row rows b t ≡ false
 unfolding not_typed has_row
 no_row b t [] e = refl
-no_row b t (c ∷ []) e = refl
-no_row b t (c ∷ u ∷ rows) e =
-    let both = both_true (not (eqb u t)) (not_typed t rows) e in
-    rw (not-true (eqb u t) both.0, and-false (eqb c b), no_row b t rows both.1) refl
+no_row b t (row ∷ rows) e =
+    let both = both_true (not (eqb row.1 t)) (not_typed t rows) e in
+    rw (not-true (eqb row.1 t) both.0, and-false (eqb row.0 b), no_row b t rows both.1) refl
 
 module _ (k : Bkey) (set : k.key_type ≡ 25) where
   not_judged : has_row judged k.btree k.key_type ≡ false
@@ -102,12 +98,11 @@ module _ {s : List ℕ} {p : ℕ} {f : KeyFront} (k : AtKey s p f) where
   unfolding by_device
   quiet_front = rw k.front
 
-  pub quiet_not : not (set_front f) ≡ true → false ≡ quiet (key_at s p)
+  pub quiet_not : set_front f ≡ false → false ≡ quiet (key_at s p)
   unfolding quiet
-  quiet_not e = rw (sym quiet_front ∙ not-true _ e)
+  quiet_not e = rw (sym quiet_front ∙ e)
 
-  pub quiet_by : not (set_front f) ≡ false → ((j : ℕ) → get_or s j 0 < 256)
-      → {size snapshot : ℕ} → size ≡ be_at s (p + 4) 4 → snapshot ≡ be_at s (p + 24) 4
+  pub quiet_by : set_front f ≡ true → {size snapshot : ℕ} → size ≡ bits_at s (8 * p + 8 * 4) 32 → snapshot ≡ bits_at s (8 * p + 8 * 24) 32
       → (eqb size 0 || eqb f.btree 11) && eqb snapshot 0 ≡ quiet (key_at s p)
   unfolding quiet key_head
-  quiet_by e bytes size snapshot = rw (sym quiet_front ∙ not-false _ e, k.front, size ∙ head_word s bytes p 4 4, snapshot ∙ head_word s bytes p 24 4)
+  quiet_by e size snapshot = rw (sym quiet_front ∙ e, k.front, size, snapshot)

@@ -1,91 +1,65 @@
 // The rules on each key, and the btrees of which a book has keys.
 #![tactic(auto)]
 
-ghost use Rattle.std.specs.Prelude.{◌≡◌, ◌+◌, ◌*◌, ◌^◌, ◌<◌, ◌≤◌};
-ghost use Rattle.findings.specs.Findings.{sink, Found, Added, each};
-ghost use Rattle.book.specs.Book.{bkey, book_of};
-ghost use Rattle.book.specs.Walk.{Opened};
-ghost use Rattle.walk.specs.Keys.{key_at, AtKey};
-ghost use Rattle.keys.specs.KeyFindings.{key_rules, key_findings};
-ghost use Rattle.keys.specs.Present.{with_btree, present_in};
+ghost use Rattle.std.specs.Prelude.{◌≡◌, ◌+◌, ◌*◌, ◌^◌, ◌<◌, ◌≤◌, length};
+ghost use Rattle.bits.specs.Bits.{bits_at};
+ghost use Rattle.findings.specs.Findings.{each};
+ghost use Rattle.findings.specs.Reports.{Reports};
+ghost use Rattle.book.specs.Book.{book_of};
+ghost use Rattle.book.specs.Turns.{held};
+ghost use Rattle.keys.specs.KeyFindings.{key_findings};
+ghost use Rattle.keys.specs.Present.{present_in};
 ghost use Rattle.keys.specs.Steps.{quiet};
 
-use book::{Header, KeyFront, KeyHead, Places};
-use findings::start_of;
+use book::names::{btree_id, key_type};
+use book::open::{Book, Key};
+use findings::report::Report;
 use states::Version;
 
-// What the rules on one key give: key number i, with this head and this value.
-fn judge_key(
-    k: KeyHead,
-    value: &[u8],
-    device: u64,
-    version: u16,
-    i: u64,
-    out: &mut [u8],
-    counts: &mut [u64],
-) -> usize
-    ensures found { Found (sink out.old counts.old) (key_rules device version i (bkey k value.now)) result (sink out.new counts.new) }
-    ensures few { result ≤ 15 }
+// The four bytes from byte i on of the head that stands at a byte.
+fn head_word(book: &[u8], at: usize, i: usize) -> u32
+    requires { (length book.now ≤ 1048576) × (at + 28 ≤ length book.now) × (i ≤ 24) }
+    ensures { result ≡ bits_at book.now (8 * at + 8 * i) 32 }
 {
-    let a = fields::check_key_device(k, device, i, out, counts);
-    let from = start_of(out.len(), a);
-    let b = a + types::check_key_type(k, i, &mut out[from..], counts);
-    let from = start_of(out.len(), b);
-    let c = b + fields::check_key_fields(k, value, i, &mut out[from..], counts);
-    let from = start_of(out.len(), c);
-    c + states::check_state_words(Version(version), k, value, i, &mut out[from..], counts)
+    bits::be32(book, at + i)
 }
 
-// Whether these rules say nothing of the key at byte p by what is read here: its front f, its size and its snapshot.
-fn is_quiet(book: &[u8], p: usize, f: KeyFront) -> bool
-    requires { AtKey book.now p f }
-    ensures { result ≡ quiet (key_at book.now p) }
+// Whether these rules say nothing of a key by what is read here: its front, its size and its snapshot.
+fn is_quiet(key: Key<'_>) -> bool
+    ensures { result ≡ quiet (held key.entry) }
 {
-    let filed = (f.btree == 4) | ((f.btree == 13) | (f.btree == 14));
-    if !((f.key_type == 25) & !filed) {
+    let btree = key.front.btree;
+    let filed = (btree == btree_id::ALLOC)
+        | ((btree == btree_id::BACKPOINTERS) | (btree == btree_id::BUCKET_GENS));
+    if !((key.front.key_type == key_type::SET) & !filed) {
         return false;
     }
-    let size = bits::be32(book, p + 4);
-    let snapshot = bits::be32(book, p + 24);
-    ((size == 0) | (f.btree == 11)) & (snapshot == 0)
+    let size = head_word(key.book, key.at, 4);
+    let snapshot = head_word(key.book, key.at, 24);
+    ((size == 0) | (btree == btree_id::FREESPACE)) & (snapshot == 0)
 }
 
-// What these rules give for the key at byte p, number i, whose front is f, after n findings.
-fn judge_at(
-    book: &[u8],
-    h: Header,
-    at: Places,
-    p: usize,
-    f: KeyFront,
-    i: u64,
-    out: &mut [u8],
-    counts: &mut [u64],
-    n: usize,
-) -> usize
-    requires { Opened book.now h at × AtKey book.now p f × (n < 2 ^ 62) }
-    ensures found { Added (sink out.old counts.old) n (key_findings (book_of book.now) i (key_at book.now p)) result (sink out.new counts.new) }
-    ensures few { result ≤ n + 15 }
+// What the rules on one key give: the key with this index.
+fn judge_key(book: Book<'_>, key: Key<'_>, index: u64, report: &mut Report<'_>)
+    requires { report.old.found < 2 ^ 60 }
+    ensures reports { Reports report.old (key_findings (book_of book.entry.bytes.now) index (held key.entry)) report.new }
+    ensures few { report.new.found ≤ report.old.found + 15 }
 {
-    if is_quiet(book, p, f) {
-        return n;
+    if is_quiet(key) {
+        return;
     }
-    let k = book::key_head(book, p);
-    let start = k.start;
-    let end = k.start + k.len;
-    let from = start_of(out.len(), n);
-    n + judge_key(
-        k,
-        &book[start..end],
-        h.device,
-        h.version,
-        i,
-        &mut out[from..],
-        counts,
-    )
+    let head = key.head();
+    let value = key.value();
+    let version = Version(book.header.version);
+    fields::check_key_device(head, book.header.device, index, report);
+    types::check_key_type(head, index, report);
+    fields::check_key_fields(head, value, index, report);
+    states::check_state_words(version, head, value, index, report);
 }
 
-// The btrees of which a book has keys, as far as a rule across keys asks.
-#[derive(Clone, Copy)]
+// The btrees of which a book has keys, as far as a rule across keys asks: without keys of its btrees such a rule has
+// nothing to find.
+#[derive(Clone, Copy, Default)]
 pub struct Present {
     pub subvolumes: bool,
     pub snapshots: bool,
@@ -94,51 +68,36 @@ pub struct Present {
     pub children: bool,
 }
 
-// Those of p, and the btree b.
-fn with_btree(p: Present, b: u8) -> Present
-    ensures { result ≡ with_btree p b }
-{
-    Present {
-        subvolumes: p.subvolumes | (b == 8),
-        snapshots: p.snapshots | (b == 9),
-        gens: p.gens | (b == 14),
-        trees: p.trees | (b == 15),
-        children: p.children | (b == 19),
+impl Present {
+    ghost use Rattle.std.specs.Prelude.{◌≡◌};
+    ghost use Rattle.keys.specs.Present.{with_btree};
+
+    // These, and a btree.
+    #[tactic(auto, unfolding(crate::specs::Present::with_btree))]
+    fn with(self, btree: u8) -> Present
+        ensures { result ≡ with_btree self btree }
+    {
+        Present {
+            subvolumes: self.subvolumes | (btree == btree_id::SUBVOLUMES),
+            snapshots: self.snapshots | (btree == btree_id::SNAPSHOTS),
+            gens: self.gens | (btree == btree_id::BUCKET_GENS),
+            trees: self.trees | (btree == btree_id::SNAPSHOT_TREES),
+            children: self.children | (btree == btree_id::SUBVOLUME_CHILDREN),
+        }
     }
 }
 
-// What these rules found at the keys, and the btrees of these: a rule across keys without keys of its btrees has nothing to find.
-#[derive(Clone, Copy)]
-pub struct Judged {
-    pub count: usize,
-    pub present: Present,
-}
-
-// "Each key in turn".
-pub fn judge_keys(book: &[u8], h: Header, at: Places, out: &mut [u8], counts: &mut [u64]) -> Judged
-    requires { Opened book.now h at }
-    ensures found { Found (sink out.old counts.old) (each (key_findings (book_of book.now)) 0 (book_of book.now).keys) result.count (sink out.new counts.new) }
-    ensures few { result.count ≤ h.keys * 15 }
-    ensures present { result.present ≡ present_in (book_of book.now).keys }
+// "Each key in turn": what these rules find at the keys, and the btrees of these.
+pub fn judge_keys(book: Book<'_>, report: &mut Report<'_>) -> Present
+    requires { report.old.found < 2 ^ 59 }
+    ensures reports { Reports report.old (each (key_findings (book_of book.entry.bytes.now)) 0 (book_of book.entry.bytes.now).keys) report.new }
+    ensures few { report.new.found ≤ report.old.found + book.entry.header.keys * 15 }
+    ensures present { result ≡ present_in (book_of book.entry.bytes.now).keys }
 {
-    let mut present = Present {
-        subvolumes: false,
-        snapshots: false,
-        gens: false,
-        trees: false,
-        children: false,
-    };
-    let mut n: usize = 0;
-    let mut i: u64 = 0;
-    let mut left = h.keys;
-    let mut p = at.keys;
-    while 0 < left {
-        let f = book::key_front(book, p);
-        present = with_btree(present, f.btree);
-        n = judge_at(book, h, at, p, f, i, out, counts, n);
-        p = p + 28 + f.len;
-        i += 1;
-        left -= 1;
+    let mut present = Present::default();
+    for (index, key) in book.keys().enumerate() {
+        present = present.with(key.front.btree);
+        judge_key(book, key, index as u64, report);
     }
-    Judged { count: n, present }
+    present
 }

@@ -10,7 +10,8 @@ use lib.Seq.{append_snoc, set_at, length-take-le, take-suc, drop-drop}
 use lib.Dec.{eqb}
 use borrow.Rule.Slice.PartMut.{put_mid, take_put, drop_put}
 use borrow.Author.Tests.{eq-eqb, ne_eqb, le-leb, lt-leb}
-use Rattle.findings.proofs.Walk.{drop_at, drop_past}
+use Rattle.findings.proofs.Walk.{drop_at}
+use Rattle.std.specs.List.{HoldsAt, AllWithin}
 use Rattle.lines.specs.Lines.{digit_of, decoded, line_length}
 
 -- ---- digits
@@ -59,18 +60,20 @@ decoded_next ds o n {high} {low} h a b =
 
 -- ---- lines
 
-module _ (text : List ℕ) (i : ℕ) where
-  pub line_here : i < length text → get_or text i 0 ≡ 10 → line_length (drop i text) ≡ 0
-  unfolding line_length
-  line_here h e = rw (drop_at text i 0 h, eq-eqb (get_or text i 0) 10 e)
+-- up to the first newline, and of a text without one
+pub line_found : (text : List ℕ) (i : ℕ) → i < length text → HoldsAt (λ x. x ≡ 10) text i → AllWithin (λ x. x ≡ 10 → ⊥) text 0 i → i ≡ line_length text
+unfolding line_length
+line_found [] i l here before = absurd (omega arith)
+line_found (b ∷ bs) zero l here before = rw (eq-eqb b 10 (here 0))
+line_found (b ∷ bs) (suc i) l here before =
+    rw (ne_eqb b 10 (before 0 0 (omega arith) (omega arith)))
+    (ap suc (line_found bs i (omega arith) here (λ k d low high. before (suc k) d (omega arith) (omega arith))))
 
-  pub line_on : i < length text → (get_or text i 0 ≡ 10 → ⊥) → line_length (drop i text) ≡ suc (line_length (drop (i + 1) text))
-  unfolding line_length
-  line_on h d = rw (drop_at text i 0 h, ne_eqb (get_or text i 0) 10 d)
-
-  pub line_past : length text ≤ i → line_length (drop i text) ≡ 0
-  unfolding line_length
-  line_past h = rw (drop_past text i h)
+pub line_whole : (text : List ℕ) → AllWithin (λ x. x ≡ 10 → ⊥) text 0 (length text) → length text ≡ line_length text
+unfolding line_length
+line_whole [] none = refl
+line_whole (b ∷ bs) none =
+    rw (ne_eqb b 10 (none 0 0 (omega arith) (omega arith))) (ap suc (line_whole bs (λ k d low high. none (suc k) d (omega arith) (omega arith))))
 
 -- a line in two parts, the first without a newline
 line_parted : (t : Bool) (k m : ℕ) → cond t 0 (suc k) ≡ suc m → (t ≡ false) × (k ≡ m)

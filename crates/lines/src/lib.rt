@@ -28,16 +28,11 @@ pub fn decode(digits: &[u8], bytes: &mut [u8]) -> usize
     ensures filled { bytes.new ≡ decoded digits.now result ++ drop result bytes.old }
     ensures counts { IsPrefixLen result bytes.new }
 {
-    let mut n: usize = 0;
-    while n < digits.len() / 2 {
-        if n == bytes.len() {
-            return n;
-        }
-        let p = 2 * n;
-        let high = digit(digits[p]);
-        let low = digit(digits[p + 1]);
-        bytes[n] = high * 16 + low;
-        n += 1;
+    let n = bytes.len().min(digits.len() / 2);
+    for i in 0..n {
+        let high = digit(digits[2 * i]);
+        let low = digit(digits[2 * i + 1]);
+        bytes[i] = high * 16 + low;
     }
     n
 }
@@ -48,24 +43,17 @@ pub fn line_end(text: &[u8], from: usize) -> usize
     ensures end { result ≡ from + line_length (drop from text.now) }
     ensures counts { IsPrefixLen result text.now }
 {
-    let mut end = from;
-    while end < text.len() {
-        if text[end] == b'\n' {
-            return end;
-        }
-        end += 1;
+    match text[from..].iter().position(|b| *b == b'\n') {
+        Some(length) => from + length,
+        None => text.len(),
     }
-    end
 }
 
 // The first byte of a line, and 0 for an empty one.
 pub fn mark(text: &[u8]) -> u8
     ensures { result ≡ mark_of text.now }
 {
-    if 0 < text.len() {
-        return text[0];
-    }
-    0
+    text.first().copied().unwrap_or(0)
 }
 
 // Writes a line as it stands if it starts with this byte; returns whether it does. An empty line counts as one that starts with 0.
@@ -88,8 +76,7 @@ pub fn read_line(line: &mut [u8]) -> usize
     ensures one { result ≤ line_length (take result line.new) + 1 }
     ensures rest { drop (result + 1) line.new ≡ drop (result + 1) line.old }
 {
-    let mut n: usize = 0;
-    while n < line.len() {
+    for n in 0..line.len() {
         let next = n + 1;
         if io::read_full(STDIN_FILENO, &mut line[n..next]) < 1 {
             return n;
@@ -97,36 +84,30 @@ pub fn read_line(line: &mut [u8]) -> usize
         if line[n] == b'\n' {
             return next;
         }
-        n = next;
     }
-    n
+    line.len()
 }
 
-// Writes the finding at byte `at`: kind, subject and object.
-fn write_finding(out: &[u8], at: usize)
-    requires { at + 17 ≤ length out.now }
-{
-    io::print_decimal(STDOUT_FILENO, bits::byte(out, at) as u64);
+// Writes a finding: kind, subject and object.
+fn write_finding(finding: &[u8; 17]) {
+    io::print_decimal(STDOUT_FILENO, bits::byte(finding, 0) as u64);
     io::write_all(STDOUT_FILENO, b" ");
-    io::print_decimal(STDOUT_FILENO, bits::be64(out, at + 1));
+    io::print_decimal(STDOUT_FILENO, bits::be64(finding, 1));
     io::write_all(STDOUT_FILENO, b" ");
-    io::print_decimal(STDOUT_FILENO, bits::be64(out, at + 9));
+    io::print_decimal(STDOUT_FILENO, bits::be64(finding, 9));
 }
 
 // Writes the first `count` findings of a buffer, or those that it holds whole, each behind these bytes; returns how many it wrote.
 pub fn write_findings(out: &[u8], count: usize, before: &[u8]) -> usize
     ensures { result ≡ min count (length out.now / 17) }
 {
-    let mut k: usize = 0;
-    while k < out.len() / 17 {
-        if k == count {
-            return k;
-        }
+    let (whole, _) = out.as_chunks::<17>();
+    let shown = &whole[..count.min(whole.len())];
+    for finding in shown {
         io::write_all(STDOUT_FILENO, before);
-        write_finding(out, 17 * k);
-        k += 1;
+        write_finding(finding);
     }
-    k
+    shown.len()
 }
 
 // Writes `findings` and the count, then a line for each of the first `count` findings that the buffer holds whole; returns how many these are.

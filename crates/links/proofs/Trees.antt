@@ -1,4 +1,5 @@
 -- The two maps that the pairs of the keys stand for.
+use Rattle.std.specs.Prelude.{None, Some}
 use Prim.Native.Nat.{ℕ, ◌+◌, ◌*◌, ◌%◌, ◌^◌, ◌≤◌, ◌<◌}
 use mathlib.Core.Path.{◌≡◌, refl, sym, subst}
 use mathlib.Core.Bool.{Bool, true, false, cond}
@@ -7,15 +8,13 @@ use native.Mathlib.Omega.{arith}
 use lib.ListN.{length, get_or, drop}
 use Rattle.bits.specs.Bits.{le_at}
 use Rattle.findings.specs.Findings.{each}
-use Rattle.pairs.specs.declared.MaybeU64.TheVariants as u64
 use Rattle.pairs.specs.Pairs.{pairs_of}
 use Rattle.book.specs.declared.Header.{Header}
 use Rattle.book.specs.declared.Places.{Places}
 use Rattle.book.specs.declared.KeyFront.{KeyFront}
-use Rattle.book.specs.declared.MaybeU32.TheVariants as u32
 use Rattle.book.specs.Maps.{lookup}
-use Rattle.book.specs.Book.{Bkey, key_head, keys_from, book_of}
-use Rattle.book.specs.Walk.{front_of, maybe_u32}
+use Rattle.book.specs.Book.{Bkey, is, key_head, key_end, keys_from, book_of}
+use Rattle.book.specs.Walk.{front_of}
 use Rattle.book.proofs.Walk.{parts}
 use Rattle.walk.specs.Keys.{key_at, AtKey}
 use Rattle.book.specs.KeyMaps.{map_of}
@@ -28,20 +27,28 @@ use Rattle.links.specs.SnapshotLinks.{tree_map, tree_of_map, tree_findings}
 use Rattle.links.specs.Steps.{root_named, tree_at, source_of, Ready}
 use Rattle.drawn.specs.Classes.{latest}
 use Rattle.drawn.proofs.Classes.{bytes_of, trees_give, latest_law, latest_held}
-use Rattle.drawn.proofs.Scan.{holds_long}
+use Rattle.book.proofs.AtKey.{long_enough}
+use Rattle.links.specs.declared.linked.Linked.{Linked}
 use Rattle.parents.specs.declared.Source.{Source}
 use Rattle.parents.specs.declared.Source.TheVariants.{Table, Pairs}
 use Rattle.parents.specs.Sources.{Sourced}
 
 -- ---- what is looked up
 
--- a key that was found is at hand once its front is read
-module _ (b t m : ℕ) {s : List ℕ} {x q : ℕ} (small : length s ≤ 1048576) (held : Held (holds b t m) id_of s x q) where
-  pub held_head : (length s ≤ 1048576) × (q + 4 ≤ length s)
-  held_head = (small, omega (arith, held.head))
+-- a key that was found may be read
+module _ (b t m : ℕ) {s : List ℕ} {x q : ℕ} (small : length s ≤ 1048576) (h : Held (holds b t m) id_of s x q) where
+  pub held_read : (length s ≤ 1048576) × (q + 28 ≤ length s) × (key_end s q ≤ length s)
+  held_read = (small, h.head, h.inside)
 
-  pub held_key : {f : KeyFront} → f ≡ front_of (key_head s q) → AtKey s q f × (m ≤ f.len)
-  held_key e = let k = held_at small held e in (k, holds_long k b t m held.passes)
+  pub held_long : m ≤ length (key_at s q).value
+  unfolding holds
+  held_long = long_enough (is b t (key_at s q)) m (length (key_at s q).value) h.passes
+
+-- what is known of a book and its pairs
+pub ready : (l : Linked) → Ready l.book.bytes.now l.book.header l.book.places l.pairs.words.now l.pairs.count
+ready l =
+    let p = parts l.book.opened in
+    record { opened = l.book.opened; few = l.few; room = l.pairs.inside; pairs = record { small = p.small; fit = p.keys_fit; all = l.all } }
 
 -- the words of a tree record
 abbrev tree_words : Bkey → ℕ × ℕ
@@ -60,31 +67,31 @@ module _ {s : List ℕ} {h : Header} {at : Places} {w : List ℕ} {n : ℕ} (r :
   names_keys = rw (parts r.opened).keys
 
   module _ (id : ℕ) where
-    pub tree_held : {q : ℕ} → last_place 0 id (pairs_of w n) ≡ u64.Is q → Held (holds 15 31 8) id_of s id q
+    pub tree_held : {q : ℕ} → last_place 0 id (pairs_of w n) ≡ Some q → Held (holds 15 31 8) id_of s id q
     tree_held {q} e = find_held trees_give r.pairs id q e
 
-    pub name_held : {q : ℕ} → latest 2 id (pairs_of w n) ≡ u64.Is q → Held (holds 9 22 24) id_of s id q
+    pub name_held : {q : ℕ} → latest 2 id (pairs_of w n) ≡ Some q → Held (holds 9 22 24) id_of s id q
     unfolding bytes_of
     name_held {q} e = latest_held r.pairs id 2 q e
 
-    pub root_found : {q v : ℕ} → last_place 0 id (pairs_of w n) ≡ u64.Is q → v ≡ le_at (key_at s q).value 4 4 → u32.Is v ≡ maybe_u32 (root_named (lookup id (tree_map (book_of s))))
-    unfolding maybe_u32 root_named word_at
+    pub root_found : {q v : ℕ} → last_place 0 id (pairs_of w n) ≡ Some q → v ≡ le_at (key_at s q).value 4 4 → Some v ≡ (root_named (lookup id (tree_map (book_of s))))
+    unfolding root_named word_at
     root_found e v = rw (trees_keys, find_law trees_give r.pairs tree_words id, e, v)
 
-    pub root_absent : last_place 0 id (pairs_of w n) ≡ u64.Absent → u32.Absent ≡ maybe_u32 (root_named (lookup id (tree_map (book_of s))))
-    unfolding maybe_u32 root_named word_at
+    pub root_absent : last_place 0 id (pairs_of w n) ≡ None → None ≡ (root_named (lookup id (tree_map (book_of s))))
+    unfolding root_named word_at
     root_absent e = rw (trees_keys, find_law trees_give r.pairs tree_words id, e)
 
     latest_names : lookup id (map_of (holds 9 22 24) id_of tree_word (keys_from s h.keys at.keys)) ≡ word_at tree_word s (latest 2 id (pairs_of w n))
     unfolding bytes_of
     latest_names = latest_law r.pairs id 2 tree_word
 
-    pub name_found : {q v : ℕ} → latest 2 id (pairs_of w n) ≡ u64.Is q → v ≡ le_at (key_at s q).value 20 4 → u32.Is v ≡ maybe_u32 (lookup id (tree_of_map (book_of s)))
-    unfolding maybe_u32 word_at
+    pub name_found : {q v : ℕ} → latest 2 id (pairs_of w n) ≡ Some q → v ≡ le_at (key_at s q).value 20 4 → Some v ≡ (lookup id (tree_of_map (book_of s)))
+    unfolding word_at
     name_found e v = rw (names_keys, latest_names, e, v)
 
-    pub name_absent : latest 2 id (pairs_of w n) ≡ u64.Absent → u32.Absent ≡ maybe_u32 (lookup id (tree_of_map (book_of s)))
-    unfolding maybe_u32 word_at
+    pub name_absent : latest 2 id (pairs_of w n) ≡ None → None ≡ (lookup id (tree_of_map (book_of s)))
+    unfolding word_at
     name_absent e = rw (names_keys, latest_names, e)
 
   -- the parents are found where `source_of` says

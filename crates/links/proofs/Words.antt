@@ -1,9 +1,9 @@
 -- What the code computes of a snapshot's words is what the rule asks of them.
+use Rattle.std.specs.Prelude.{None, Option, Some}
 use Prim.Native.Nat.{ℕ, ◌+◌}
 use mathlib.Core.Path.{◌≡◌, refl, sym, ap, ◌∙◌}
 use mathlib.Core.Bool.{Bool, true, false, cond, not, ◌&&◌, ◌||◌}
 use mathlib.Core.List.{List, [], ◌∷◌, ◌++◌, append-nil}
-use mathlib.Core.Option.{Option, none, some}
 use native.Mathlib.Omega.{arith}
 use lib.ListN.{length, take}
 use lib.Dec.{eqb}
@@ -13,12 +13,9 @@ use Rattle.findings.specs.Findings.{Finding, finding, when, only, each, keep}
 use Rattle.pairs.specs.Pairs.{has}
 use Rattle.pairs.proofs.Order.{same_or_not}
 use Rattle.book.specs.declared.Header.{Header}
-use Rattle.book.specs.declared.MaybeU32.{MaybeU32}
-use Rattle.book.specs.declared.MaybeU32.TheVariants.{Is, Absent}
 use Rattle.book.specs.Maps.{lookup}
 use Rattle.book.specs.Book.{Bkey, Book}
 use Rattle.book.specs.KeyMaps.{parents_of}
-use Rattle.book.specs.Walk.{maybe_u32}
 use Rattle.book.proofs.Maps.{word_is, word_absent}
 use Rattle.parents.specs.Chains.{root_answer}
 use Rattle.ancestors.specs.Lines.{Lined}
@@ -27,28 +24,23 @@ use Rattle.ancestors.specs.declared.Line.{Line}
 use Rattle.ancestors.proofs.Laws.{among}
 use Rattle.book.specs.Words.{holds, subvolume_word, tree_word, depth_word, skip_words, id_of}
 use Rattle.links.specs.SnapshotLinks.{tree_map, tree_of_map, is_the, is_other, master_findings, tree_findings, names_root, wrong_depth, bad_child, bad_skip, root_findings, backref_findings, child_findings, skip_findings, link_findings, snapshot_links}
-use Rattle.links.specs.Steps.{word_in, root_in, root_named, same_root}
+use Rattle.links.specs.Steps.{root_in, root_named, same_root}
 
--- the enums say what they were made from
-pub word_back : (o : Option ℕ) → word_in (maybe_u32 o) ≡ o
-unfolding word_in maybe_u32
-word_back none = refl
-word_back (some x) = refl
-
+-- a root says what it was made from
 pub root_back : (o : Option (ℕ × ℕ)) → root_in (root_answer o) ≡ o
 unfolding root_in root_answer
-root_back none = refl
-root_back (some r) = refl
+root_back None = refl
+root_back (Some r) = refl
 
 -- a child
 pub child_none : (t : List (ℕ × ℕ)) (id child : ℕ) → child ≡ 0 → false ≡ bad_child t id child
 unfolding bad_child
 child_none t id child e = rw (eq-eqb child 0 e)
 
-pub child_test : (t : List (ℕ × ℕ)) (id child : ℕ) {m : MaybeU32} {own : Bool} → (child ≡ 0 → ⊥) → m ≡ maybe_u32 (lookup child t) → own ≡ is_the id (word_in m)
+pub child_test : (t : List (ℕ × ℕ)) (id child : ℕ) {m : Option ℕ} {own : Bool} → (child ≡ 0 → ⊥) → m ≡ (lookup child t) → own ≡ is_the id m
     → not own ≡ bad_child t id child
 unfolding bad_child
-child_test t id child e m own = rw (own, m, word_back (lookup child t), ne_eqb child 0 e)
+child_test t id child e m own = rw (own, m, ne_eqb child 0 e)
 
 -- a skip word, by whether it is among the ids
 pub skip_by : (id skip : ℕ) (ids : List ℕ) {above : Bool} {x : ℕ} → above ≡ has skip ids → x ≡ cond (not (eqb skip 0) && not (eqb skip id || above)) 1 0 → x ≡ cond (bad_skip id ids skip) 1 0
@@ -77,9 +69,9 @@ pub backref_is : (k : Bkey) (id : ℕ) (t : List (ℕ × ℕ)) {w : ℕ} {bad : 
 unfolding backref_findings
 backref_is k id t e bad = rw (bad, e)
 
-pub other_is : (id : ℕ) (o : Option ℕ) (w : ℕ) {m : MaybeU32} {other : Bool} → (w ≡ 0 → ⊥) → m ≡ maybe_u32 o → other ≡ is_other id (word_in m)
+pub other_is : (id : ℕ) (o : Option ℕ) (w : ℕ) {m : Option ℕ} {other : Bool} → (w ≡ 0 → ⊥) → m ≡ o → other ≡ is_other id m
     → other ≡ not (eqb w 0) && is_other id o
-other_is id o w e m other = rw (other, m, word_back o, ne_eqb w 0 e)
+other_is id o w e m other = rw (other, m, ne_eqb w 0 e)
 
 pub children_are : (k : Bkey) (id : ℕ) (t : List (ℕ × ℕ)) {l r : ℕ} {a b : Bool} → l ≡ le_at k.value 8 4 → r ≡ le_at k.value 12 4 → a ≡ bad_child t id l → b ≡ bad_child t id r
     → when a (finding 44 id l) ++ when b (finding 44 id r) ≡ child_findings k id t
@@ -92,16 +84,16 @@ skips_shown k id ids e = rw e
 
 names_same : (tree root : Option (ℕ × ℕ)) → same_root (root_named tree) root ≡ names_root tree root
 unfolding same_root root_named names_root is_the
-names_same none none = refl
-names_same none (some r) = refl
-names_same (some t) none = refl
-names_same (some t) (some r) = refl
+names_same None None = refl
+names_same None (Some r) = refl
+names_same (Some t) None = refl
+names_same (Some t) (Some r) = refl
 
-pub root_shown : (k : Bkey) (id : ℕ) (t : List (ℕ × (ℕ × ℕ))) (root : Option (ℕ × ℕ)) {w d : ℕ} {m : MaybeU32} {same wrong : Bool} → w ≡ tree_word k → d ≡ depth_word k
-    → m ≡ maybe_u32 (root_named (lookup w t)) → same ≡ same_root (word_in m) root → wrong ≡ wrong_depth d root
+pub root_shown : (k : Bkey) (id : ℕ) (t : List (ℕ × (ℕ × ℕ))) (root : Option (ℕ × ℕ)) {w d : ℕ} {m : Option ℕ} {same wrong : Bool} → w ≡ tree_word k → d ≡ depth_word k
+    → m ≡ (root_named (lookup w t)) → same ≡ same_root m root → wrong ≡ wrong_depth d root
     → when (not same) (finding 41 id w) ++ when wrong (finding 42 id d) ≡ root_findings k id (lookup (tree_word k) t) root
 unfolding root_findings
-root_shown k id t root {w} ew ed m same wrong = rw (same, m, word_back (root_named (lookup w t)), names_same (lookup w t) root, wrong, ew, ed)
+root_shown k id t root {w} ew ed m same wrong = rw (same, m, names_same (lookup w t) root, wrong, ew, ed)
 
 -- the array has the ids above a snapshot, each perhaps more than once
 module _ (t : List (ℕ × ℕ)) (k : Bkey) {ids : List ℕ} {l : Line} (h : Lined t ids l) where
@@ -123,21 +115,21 @@ links_shown b t k p i h = rw (skips_same t k h, h.root_is, root_back _, p, i)
 
 -- ---- the trees
 
-pub master_there : (tree_of : List (ℕ × ℕ)) (id subvolume : ℕ) (o : Option ℕ) {x m : MaybeU32} {snap : ℕ} {other : Bool} → x ≡ maybe_u32 o → x ≡ Is snap
-    → m ≡ maybe_u32 (lookup snap tree_of) → other ≡ is_other id (word_in m) → when other (finding 40 id subvolume) ≡ master_findings tree_of id subvolume o
+pub master_there : (tree_of : List (ℕ × ℕ)) (id subvolume : ℕ) (o : Option ℕ) {x m : Option ℕ} {snap : ℕ} {other : Bool} → x ≡ o → x ≡ Some snap
+    → m ≡ (lookup snap tree_of) → other ≡ is_other id m → when other (finding 40 id subvolume) ≡ master_findings tree_of id subvolume o
 unfolding master_findings
-master_there tree_of id subvolume o {snap = snap} x is m other = rw (word_is o (sym x ∙ is), other, m, word_back (lookup snap tree_of))
+master_there tree_of id subvolume o {snap = snap} x is m other = rw (word_is o (sym x ∙ is), other, m)
 
-pub master_absent : (tree_of : List (ℕ × ℕ)) (id subvolume : ℕ) (o : Option ℕ) {x : MaybeU32} → x ≡ maybe_u32 o → x ≡ Absent
+pub master_absent : (tree_of : List (ℕ × ℕ)) (id subvolume : ℕ) (o : Option ℕ) {x : Option ℕ} → x ≡ o → x ≡ None
     → finding 31 id subvolume ∷ [] ≡ master_findings tree_of id subvolume o
 unfolding master_findings
 master_absent tree_of id subvolume o x is = rw (word_absent o (sym x ∙ is))
 
-pub tree_shown : (b : Book) (e : ℕ × (ℕ × ℕ)) {id subvolume root : ℕ} {m : MaybeU32} {back : Bool} → id ≡ e.0 → subvolume ≡ e.1.0 → root ≡ e.1.1
-    → m ≡ maybe_u32 (lookup root (tree_of_map b)) → back ≡ is_the id (word_in m)
+pub tree_shown : (b : Book) (e : ℕ × (ℕ × ℕ)) {id subvolume root : ℕ} {m : Option ℕ} {back : Bool} → id ≡ e.0 → subvolume ≡ e.1.0 → root ≡ e.1.1
+    → m ≡ (lookup root (tree_of_map b)) → back ≡ is_the id m
     → when (not back) (finding 39 id root) ++ master_findings (tree_of_map b) id subvolume (lookup subvolume b.subvolumes) ≡ tree_findings b e
 unfolding tree_findings
-tree_shown b e {root = root} i v t m back = rw (back, m, word_back (lookup root (tree_of_map b)), i, v, t)
+tree_shown b e {root = root} i v t m back = rw (back, m, i, v, t)
 
 -- findings under a test
 only_false : (fs : List Finding) {m : Bool} → m ≡ false → only m fs ≡ []

@@ -1,6 +1,5 @@
 -- The rule `snapshot_links` (document 01, kinds 31 and 39 to 45).
-use Rattle.std.specs.Prelude.{ℕ, Bool, false, not, ◌&&◌, List, [], ◌∷◌, ◌++◌, length, eqb}
-use Rattle.std.proofs.Math.Option.{Option, none, some}
+use Rattle.std.specs.Prelude.{ℕ, Bool, false, not, ◌&&◌, List, [], ◌∷◌, ◌++◌, length, eqb, None, Option, Some}
 use Rattle.findings.specs.Findings.{Finding, finding, when, only, each, keep}
 use Rattle.pairs.specs.Pairs.{has}
 use Rattle.book.specs.Maps.{lookup}
@@ -21,20 +20,20 @@ tree_of_map b = map_of (holds 9 22 24) id_of tree_word b.keys
 
 -- there, and equal to x
 unfoldable pub is_the : ℕ → Option ℕ → Bool
-is_the x none = false
-is_the x (some y) = eqb y x
+is_the x None = false
+is_the x (Some y) = eqb y x
 
 -- there, and not equal to x
 unfoldable pub is_other : ℕ → Option ℕ → Bool
-is_other x none = false
-is_other x (some y) = not (eqb y x)
+is_other x None = false
+is_other x (Some y) = not (eqb y x)
 
 -- THE TREES
 
 -- 31 snapshot_tree_to_missing_subvol (tree, subvolume), or 40 snapshot_tree_to_wrong_subvol where its snapshot is in another tree
 unfoldable pub master_findings : List (ℕ × ℕ) → ℕ → ℕ → Option ℕ → List Finding
-master_findings tree_of id subvolume none = finding 31 id subvolume ∷ []
-master_findings tree_of id subvolume (some snap) = when (is_other id (lookup snap tree_of)) (finding 40 id subvolume)
+master_findings tree_of id subvolume None = finding 31 id subvolume ∷ []
+master_findings tree_of id subvolume (Some snap) = when (is_other id (lookup snap tree_of)) (finding 40 id subvolume)
 
 -- 39 snapshot_tree_to_bad_root_snapshot (tree, root): no snapshot of the root's id names the tree; then 31 or 40
 unfoldable pub tree_findings : Book → ℕ × (ℕ × ℕ) → List Finding
@@ -46,14 +45,14 @@ tree_findings b e =
 
 -- a tree record and a root are there, and the record names the root
 unfoldable pub names_root : Option (ℕ × ℕ) → Option (ℕ × ℕ) → Bool
-names_root none root = false
-names_root (some tree) none = false
-names_root (some tree) (some root) = eqb tree.1 root.0
+names_root None root = false
+names_root (Some tree) None = false
+names_root (Some tree) (Some root) = eqb tree.1 root.0
 
 -- a root is there, and the depth is not the number of links to it
 unfoldable pub wrong_depth : ℕ → Option (ℕ × ℕ) → Bool
-wrong_depth depth none = false
-wrong_depth depth (some root) = not (eqb depth root.1)
+wrong_depth depth None = false
+wrong_depth depth (Some root) = not (eqb depth root.1)
 
 -- a child other than 0 whose parent is not this snapshot
 unfoldable pub bad_child : List (ℕ × ℕ) → ℕ → ℕ → Bool

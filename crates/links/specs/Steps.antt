@@ -1,15 +1,11 @@
 -- What only contracts of private functions cite.
-use Rattle.std.specs.Prelude.{ℕ, ◌*◌, ◌≤◌, Bool, false, cond, List, length}
-use Rattle.std.proofs.Math.Option.{Option, none, some}
+use Rattle.std.specs.Prelude.{ℕ, ◌*◌, ◌≤◌, Bool, false, cond, List, length, None, Option, Some}
 use Rattle.pairs.specs.Pairs.{pairs_of}
 use Rattle.book.specs.declared.Header.{Header}
 use Rattle.book.specs.declared.Places.{Places}
-use Rattle.book.specs.declared.MaybeU32.{MaybeU32}
-use Rattle.book.specs.declared.MaybeU32.TheVariants.{Is, Absent}
 use Rattle.book.specs.Walk.{Opened}
 use Rattle.walk.specs.Keys.{key_at}
 use Rattle.parents.specs.declared.Root.{Root}
-use Rattle.parents.specs.declared.Root.TheVariants.{At, NoRoot}
 use Rattle.maps.specs.Sorted.{AllPairs}
 use Rattle.drawn.specs.Classes.{link_pair}
 use Rattle.parents.specs.declared.Source.{Source}
@@ -17,24 +13,20 @@ use Rattle.parents.specs.declared.Source.TheVariants.{Table, Pairs}
 use Rattle.book.specs.Words.{master_word, root_word}
 use Rattle.links.specs.SnapshotLinks.{is_the}
 
--- a word or none, and a root with its links or none, by the enums
-unfoldable pub word_in : MaybeU32 → Option ℕ
-word_in (Is x) = some x
-word_in Absent = none
-
-unfoldable pub root_in : Root → Option (ℕ × ℕ)
-root_in (At root links) = some (root, links)
-root_in NoRoot = none
+-- a root with its links or none, as functions answer it
+unfoldable pub root_in : Option Root → Option (ℕ × ℕ)
+root_in (Some r) = Some (r.root, r.links)
+root_in None = None
 
 -- the root that a tree record names
 unfoldable pub root_named : Option (ℕ × ℕ) → Option ℕ
-root_named none = none
-root_named (some tree) = some tree.1
+root_named None = None
+root_named (Some tree) = Some tree.1
 
 -- a root is there, and a word that is the root's id
 unfoldable pub same_root : Option ℕ → Option (ℕ × ℕ) → Bool
-same_root word none = false
-same_root word (some root) = is_the root.0 word
+same_root word None = false
+same_root word (Some root) = is_the root.0 word
 
 -- an id and the place of its tree record, as the pair that they are in the map of trees
 abbrev pub tree_at : List ℕ → ℕ × ℕ → ℕ × (ℕ × ℕ)

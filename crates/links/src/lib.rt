@@ -2,13 +2,13 @@
 #![tactic(auto)]
 
 ghost use Rattle.std.specs.Prelude.{◌≡◌, [], ◌∷◌, ◌++◌, cond, not, ◌&&◌, ◌||◌, ◌+◌, ◌*◌, ◌%◌, ◌^◌, ◌<◌, ◌≤◌, length, take, drop, get_or, eqb};
-ghost use Rattle.findings.specs.Findings.{sink, only, each, keep, Found, Added};
+ghost use Rattle.findings.specs.Findings.{only, each, keep};
+ghost use Rattle.findings.specs.Reports.{Reports};
 ghost use Rattle.pairs.specs.Pairs.{pairs_of};
 ghost use Rattle.book.specs.Maps.{lookup};
 ghost use Rattle.book.specs.Book.{book_of};
 ghost use Rattle.book.specs.KeyMaps.{parents_of};
-ghost use Rattle.book.specs.Walk.{Opened, maybe_u32};
-ghost use Rattle.walk.specs.Keys.{key_at, AtKey};
+ghost use Rattle.book.specs.Turns.{held};
 ghost use Rattle.maps.specs.Sorted.{last_at};
 ghost use Rattle.parents.specs.Sources.{reach_of};
 ghost use Rattle.ancestors.specs.Lines.{Lined};
@@ -30,69 +30,66 @@ ghost use Rattle.links.specs.SnapshotLinks.{
   link_findings,
   snapshot_links,
 };
-ghost use Rattle.links.specs.Steps.{word_in, root_in, root_named, same_root, tree_at, source_of, Ready};
+ghost use Rattle.links.specs.Steps.{root_in, root_named, same_root, tree_at, source_of};
 
 use ancestors::Line;
-use book::{Header, KeyFront, MaybeU32, Places};
-use findings::{emit, emit_if};
-use pairs::MaybeU64;
+use book::names::{btree_id, key_type};
+use book::open::{Book, Key};
+use book::{Header, Places};
+use findings::kind::Kind;
+use findings::report::Report;
+use linked::Linked;
+use pairs::SortedPairs;
 use parents::{Root, Source};
 
-// How many findings there are with those of a key, and the line of the last snapshot.
-#[derive(Clone, Copy)]
-struct Shown {
-    found: usize,
-    line: Line,
-}
+mod linked;
 
 // Whether a word is there and is x.
-fn is_the(word: MaybeU32, x: u32) -> bool
-    ensures { result ≡ is_the x (word_in word) }
+fn is_the(word: Option<u32>, x: u32) -> bool
+    ensures { result ≡ is_the x word }
 {
     match word {
-        MaybeU32::Is(y) => y == x,
-        MaybeU32::Absent => false,
+        Some(y) => y == x,
+        None => false,
     }
 }
 
 // Whether a word is there and is not x.
-fn is_other(word: MaybeU32, x: u32) -> bool
-    ensures { result ≡ is_other x (word_in word) }
+fn is_other(word: Option<u32>, x: u32) -> bool
+    ensures { result ≡ is_other x word }
 {
     match word {
-        MaybeU32::Is(y) => y != x,
-        MaybeU32::Absent => false,
+        Some(y) => y != x,
+        None => false,
     }
 }
 
 // Whether a root is there and the word is its id.
-fn same_root(word: MaybeU32, root: Root) -> bool
-    ensures { result ≡ same_root (word_in word) (root_in root) }
+fn same_root(word: Option<u32>, root: Option<Root>) -> bool
+    ensures { result ≡ same_root word (root_in root) }
 {
     match root {
-        Root::At { root: id, links: _ } => is_the(word, id),
-        Root::NoRoot => false,
+        Some(found) => is_the(word, found.root),
+        None => false,
     }
 }
 
 // Whether a root is there and the depth is not the number of links to it.
-fn wrong_depth(depth: u32, root: Root) -> bool
+fn wrong_depth(depth: u32, root: Option<Root>) -> bool
     ensures { result ≡ wrong_depth depth (root_in root) }
 {
     match root {
-        Root::At { root: _, links } => depth != links,
-        Root::NoRoot => false,
+        Some(found) => depth != found.links,
+        None => false,
     }
 }
 
 // The snapshot that the subvolumes table has for an id.
-fn snapshot_of(book: &[u8], h: Header, at: Places, id: u32) -> MaybeU32
-    requires { Opened book.now h at }
-    ensures { result ≡ maybe_u32 (lookup id (book_of book.now).subvolumes) }
+fn snapshot_of(book: Book<'_>, id: u32) -> Option<u32>
+    ensures { result ≡ lookup id (book_of book.entry.bytes.now).subvolumes }
 {
-    let count = h.subvolumes as usize;
-    let found = tables::find_word(book, at.subvolumes, count, count, id);
-    found.word
+    let count = book.header.subvolumes as usize;
+    tables::find_word(book.bytes, book.places.subvolumes, count, count, id).word
 }
 
 // Where the parents are found, once the first n pairs of the work words are those of all keys.
@@ -106,37 +103,27 @@ fn source_of(h: Header, at: Places, n: usize) -> Source
 }
 
 // Whether a child is there that does not have this snapshot as its parent.
-fn bad_child(
-    book: &[u8],
-    h: Header,
-    at: Places,
-    work: &[u64],
-    n: usize,
-    id: u32,
-    child: u32,
-) -> bool
-    requires { Ready book.now h at work.now n }
-    ensures { result ≡ bad_child (parents_of (book_of book.now)) id child }
+fn bad_child(links: &Linked<'_, '_>, id: u32, child: u32) -> bool
+    ensures { result ≡ bad_child (parents_of (book_of links.now.book.bytes.now)) id child }
 {
     if child == 0 {
         return false;
     }
-    let source = source_of(h, at, n);
+    let book = links.book;
+    let source = source_of(book.header, book.places, links.pairs.count);
     let near = parents::reach(source);
-    let found = parents::parent_in(book, work, source, near, child);
-    let parent = found.word;
-    !is_the(parent, id)
+    let found = parents::parent_in(book.bytes, links.pairs.words, source, near, child);
+    !is_the(found.word, id)
 }
 
 // Whether a subvolume is there that has another snapshot than this one.
-fn bad_backref(book: &[u8], h: Header, at: Places, id: u32, subvolume: u32) -> bool
-    requires { Opened book.now h at }
-    ensures { result ≡ not (eqb subvolume 0) && is_other id (lookup subvolume (book_of book.now).subvolumes) }
+fn bad_backref(book: Book<'_>, id: u32, subvolume: u32) -> bool
+    ensures { result ≡ not (eqb subvolume 0) && is_other id (lookup subvolume (book_of book.entry.bytes.now).subvolumes) }
 {
     if subvolume == 0 {
         return false;
     }
-    is_other(snapshot_of(book, h, at, subvolume), id)
+    is_other(snapshot_of(book, subvolume), id)
 }
 
 // 1 for a skip word that names neither the snapshot nor an id above it, else 0.
@@ -150,14 +137,14 @@ fn count_skip(id: u32, skip: u32, above: bool) -> u64
     0
 }
 
-// How many of the three skip words of the snapshot at byte p are bad.
-fn count_skips(book: &[u8], p: usize, f: KeyFront, ids: &[u32; 1024], len: usize, id: u32) -> u64
-    requires { AtKey book.now p f × (40 ≤ f.len) × (len ≤ 1024) × (length ids.now ≡ 1024) }
-    ensures { result ≡ length (keep (bad_skip id (take len ids.now)) (skip_words (key_at book.now p))) }
+// How many of the three skip words of a snapshot are bad, by the first `len` ids.
+fn count_skips(key: Key<'_>, ids: &[u32; 1024], len: usize, id: u32) -> u64
+    requires { (40 ≤ length (held key).value) × (len ≤ 1024) × (length ids.now ≡ 1024) }
+    ensures { result ≡ length (keep (bad_skip id (take len ids.now)) (skip_words (held key.entry))) }
 {
-    let a = walk::key_word(book, p, f, 28);
-    let b = walk::key_word(book, p, f, 32);
-    let c = walk::key_word(book, p, f, 36);
+    let a = key.word(28);
+    let b = key.word(32);
+    let c = key.word(36);
     if (a == 0) & (b == 0) & (c == 0) {
         return 0;
     }
@@ -166,402 +153,259 @@ fn count_skips(book: &[u8], p: usize, f: KeyFront, ids: &[u32; 1024], len: usize
 }
 
 // The finding of a snapshot whose subvolume has another snapshot.
-fn show_backref(
-    book: &[u8],
-    h: Header,
-    at: Places,
-    p: usize,
-    f: KeyFront,
-    id: u32,
-    out: &mut [u8],
-    counts: &mut [u64],
-    m: usize,
-) -> usize
-    requires { Opened book.now h at × AtKey book.now p f × (40 ≤ f.len) × (m < 2 ^ 62) }
-    ensures added { Added (sink out.old counts.old) m (backref_findings (key_at book.now p) id (lookup (subvolume_word (key_at book.now p)) (book_of book.now).subvolumes)) result (sink out.new counts.new) }
-    ensures few { result ≤ m + 1 }
+fn show_backref(book: Book<'_>, key: Key<'_>, id: u32, report: &mut Report<'_>)
+    requires { (40 ≤ length (held key).value) × (report.old.found < 2 ^ 62) }
+    ensures reports { Reports report.old (backref_findings (held key.entry) id (lookup (subvolume_word (held key.entry)) (book_of book.entry.bytes.now).subvolumes)) report.new }
+    ensures few { report.new.found ≤ report.old.found + 1 }
 {
-    let subvolume = walk::key_word(book, p, f, 16);
-    let bad = bad_backref(book, h, at, id, subvolume);
-    emit_if(out, counts, m, bad, 43, id as u64, subvolume as u64)
+    let subvolume = key.word(16);
+    let bad = bad_backref(book, id, subvolume);
+    report.emit_if(
+        bad,
+        Kind::SnapshotSubvolBackrefWrong,
+        id as u64,
+        subvolume as u64,
+    );
 }
 
 // The findings of a snapshot's two children.
-fn show_children(
-    book: &[u8],
-    h: Header,
-    at: Places,
-    work: &[u64],
-    n: usize,
-    p: usize,
-    f: KeyFront,
-    id: u32,
-    out: &mut [u8],
-    counts: &mut [u64],
-    m: usize,
-) -> usize
-    requires { Ready book.now h at work.now n × AtKey book.now p f × (40 ≤ f.len) × (m < 2 ^ 62) }
-    ensures added { Added (sink out.old counts.old) m (child_findings (key_at book.now p) id (parents_of (book_of book.now))) result (sink out.new counts.new) }
-    ensures few { result ≤ m + 2 }
+fn show_children(links: &Linked<'_, '_>, key: Key<'_>, id: u32, report: &mut Report<'_>)
+    requires { (40 ≤ length (held key).value) × (report.old.found < 2 ^ 62) }
+    ensures reports { Reports report.old (child_findings (held key.entry) id (parents_of (book_of links.now.book.bytes.now))) report.new }
+    ensures few { report.new.found ≤ report.old.found + 2 }
 {
-    let left = walk::key_word(book, p, f, 8);
-    let right = walk::key_word(book, p, f, 12);
-    let one = bad_child(book, h, at, work, n, id, left);
-    let other = bad_child(book, h, at, work, n, id, right);
-    let found = emit_if(out, counts, m, one, 44, id as u64, left as u64);
-    emit_if(out, counts, found, other, 44, id as u64, right as u64)
+    let left = key.word(8);
+    let right = key.word(12);
+    let one = bad_child(links, id, left);
+    let other = bad_child(links, id, right);
+    report.emit_if(one, Kind::SnapshotBadChild, id as u64, left as u64);
+    report.emit_if(other, Kind::SnapshotBadChild, id as u64, right as u64);
 }
 
-// The finding of a snapshot's skip words, by the first len ids.
-fn show_skips(
-    book: &[u8],
-    p: usize,
-    f: KeyFront,
-    id: u32,
-    ids: &[u32; 1024],
-    len: usize,
-    out: &mut [u8],
-    counts: &mut [u64],
-    m: usize,
-) -> usize
-    requires { AtKey book.now p f × (40 ≤ f.len) × (len ≤ 1024) × (length ids.now ≡ 1024) × (m < 2 ^ 62) }
-    ensures added { Added (sink out.old counts.old) m (skip_findings (key_at book.now p) id (take len ids.now)) result (sink out.new counts.new) }
-    ensures few { result ≤ m + 1 }
+// The finding of a snapshot's skip words, by the first `len` ids.
+fn show_skips(key: Key<'_>, id: u32, ids: &[u32; 1024], len: usize, report: &mut Report<'_>)
+    requires { (40 ≤ length (held key).value) × (len ≤ 1024) × (length ids.now ≡ 1024) × (report.old.found < 2 ^ 62) }
+    ensures reports { Reports report.old (skip_findings (held key.entry) id (take len ids.now)) report.new }
+    ensures few { report.new.found ≤ report.old.found + 1 }
 {
-    let bad = count_skips(book, p, f, ids, len, id);
-    emit_if(out, counts, m, bad != 0, 45, id as u64, bad)
+    let bad = count_skips(key, ids, len, id);
+    report.emit_if(bad != 0, Kind::SnapshotBadSkiplist, id as u64, bad);
 }
 
-// The root that the tree record of an id names: the last record of the id, by the first n pairs.
-fn tree_root(book: &[u8], h: Header, at: Places, work: &[u64], n: usize, id: u32) -> MaybeU32
-    requires { Ready book.now h at work.now n }
-    ensures { result ≡ maybe_u32 (root_named (lookup id (tree_map (book_of book.now)))) }
+// The root that the tree record of an id names: the last record of the id.
+fn tree_root(links: &Linked<'_, '_>, id: u32) -> Option<u32>
+    ensures { result ≡ root_named (lookup id (tree_map (book_of links.now.book.bytes.now))) }
 {
-    match maps::find_place(work, n, 0, id as u64) {
-        MaybeU64::Is(q) => {
-            let p = q as usize;
-            let f = book::key_front(book, p);
-            MaybeU32::Is(walk::key_word(book, p, f, 4))
-        }
-        MaybeU64::Absent => MaybeU32::Absent,
+    match maps::find_place(links.pairs, 0, id as u64) {
+        Some(at) => Some(Key::read(links.book.bytes, at as usize).word(4)),
+        None => None,
     }
 }
 
-// The tree that the snapshot of an id names: the last snapshot of the id, by the first n pairs.
-fn tree_of(book: &[u8], h: Header, at: Places, work: &[u64], n: usize, id: u32) -> MaybeU32
-    requires { Ready book.now h at work.now n }
-    ensures { result ≡ maybe_u32 (lookup id (tree_of_map (book_of book.now))) }
+// The tree that the snapshot of an id names: the last snapshot of the id.
+fn tree_of(links: &Linked<'_, '_>, id: u32) -> Option<u32>
+    ensures { result ≡ lookup id (tree_of_map (book_of links.now.book.bytes.now)) }
 {
-    let found = drawn::find_snapshot(work, n, n, 2, id);
-    let place = found.place;
-    match place {
-        MaybeU64::Is(q) => {
-            let p = q as usize;
-            let f = book::key_front(book, p);
-            MaybeU32::Is(walk::key_word(book, p, f, 20))
-        }
-        MaybeU64::Absent => MaybeU32::Absent,
+    let found = drawn::find_snapshot(links.pairs, links.pairs.count, 2, id);
+    match found.place {
+        Some(at) => Some(Key::read(links.book.bytes, at as usize).word(20)),
+        None => None,
     }
 }
 
 // The findings of a snapshot's tree word and depth word, by the root above it.
 fn show_root(
-    book: &[u8],
-    h: Header,
-    at: Places,
-    work: &[u64],
-    n: usize,
-    p: usize,
-    f: KeyFront,
+    links: &Linked<'_, '_>,
+    key: Key<'_>,
     id: u32,
-    root: Root,
-    out: &mut [u8],
-    counts: &mut [u64],
-    m: usize,
-) -> usize
-    requires { Ready book.now h at work.now n × AtKey book.now p f × (40 ≤ f.len) × (m < 2 ^ 62) }
-    ensures added { Added (sink out.old counts.old) m (root_findings (key_at book.now p) id (lookup (tree_word (key_at book.now p)) (tree_map (book_of book.now))) (root_in root)) result (sink out.new counts.new) }
-    ensures few { result ≤ m + 2 }
+    root: Option<Root>,
+    report: &mut Report<'_>,
+)
+    requires { (40 ≤ length (held key).value) × (report.old.found < 2 ^ 62) }
+    ensures reports { Reports report.old (root_findings (held key.entry) id (lookup (tree_word (held key.entry)) (tree_map (book_of links.now.book.bytes.now))) (root_in root)) report.new }
+    ensures few { report.new.found ≤ report.old.found + 2 }
 {
-    let tree = walk::key_word(book, p, f, 20);
-    let depth = walk::key_word(book, p, f, 24);
-    let same = same_root(tree_root(book, h, at, work, n, tree), root);
+    let tree = key.word(20);
+    let depth = key.word(24);
+    let same = same_root(tree_root(links, tree), root);
     let wrong = wrong_depth(depth, root);
-    let found = emit_if(out, counts, m, !same, 41, id as u64, tree as u64);
-    emit_if(out, counts, found, wrong, 42, id as u64, depth as u64)
+    report.emit_if(
+        !same,
+        Kind::SnapshotToBadSnapshotTree,
+        id as u64,
+        tree as u64,
+    );
+    report.emit_if(wrong, Kind::SnapshotBadDepth, id as u64, depth as u64);
 }
 
-// The findings of the snapshot at byte p, by its line.
+// The findings of a snapshot, by its line.
 fn show_links(
-    book: &[u8],
-    h: Header,
-    at: Places,
-    work: &[u64],
-    n: usize,
-    p: usize,
-    f: KeyFront,
+    links: &Linked<'_, '_>,
+    key: Key<'_>,
     line: Line,
     ids: &[u32; 1024],
-    out: &mut [u8],
-    counts: &mut [u64],
-    m: usize,
-) -> usize
-    requires ready { Ready book.now h at work.now n × AtKey book.now p f × (40 ≤ f.len) × (m < 2 ^ 61) }
-    requires lined { Lined (parents_of (book_of book.now)) ids.now line × (line.id ≡ id_of (key_at book.now p)) }
-    ensures added { Added (sink out.old counts.old) m (link_findings (book_of book.now) (key_at book.now p)) result (sink out.new counts.new) }
-    ensures few { result ≤ m + 6 }
+    report: &mut Report<'_>,
+)
+    requires ready { (40 ≤ length (held key).value) × (report.old.found < 2 ^ 61) }
+    requires lined { Lined (parents_of (book_of links.now.book.bytes.now)) ids.now line × (line.id ≡ id_of (held key)) }
+    ensures reports { Reports report.old (link_findings (book_of links.now.book.bytes.now) (held key.entry)) report.new }
+    ensures few { report.new.found ≤ report.old.found + 6 }
 {
     let id = line.id;
-    let root = line.root;
-    let m = show_root(book, h, at, work, n, p, f, id, root, out, counts, m);
-    let m = show_backref(book, h, at, p, f, id, out, counts, m);
-    let m = show_children(book, h, at, work, n, p, f, id, out, counts, m);
-    show_skips(book, p, f, id, ids, line.len, out, counts, m)
+    show_root(links, key, id, line.root, report);
+    show_backref(links.book, key, id, report);
+    show_children(links, key, id, report);
+    show_skips(key, id, ids, line.len, report);
 }
 
-// The findings of the key at byte p, if it is a snapshot with all its words: its line is found from that of the snapshot before.
+// The findings of a key, if it is a snapshot with all its words; returns its line, which is found from that of the snapshot before.
 fn show_snapshot(
-    book: &[u8],
-    h: Header,
-    at: Places,
-    work: &[u64],
-    n: usize,
-    p: usize,
-    f: KeyFront,
+    links: &Linked<'_, '_>,
+    key: Key<'_>,
     line: Line,
     ids: &mut [u32; 1024],
     hints: &mut [u16],
-    out: &mut [u8],
-    counts: &mut [u64],
-    m: usize,
-) -> Shown
-    requires ready { Ready book.now h at work.now n × AtKey book.now p f × (m < 2 ^ 61) }
-    requires lined_2 { Lined (parents_of (book_of book.now)) ids.old line × (line.near ≤ reach_of (source_of h at n)) }
-    ensures added { Added (sink out.old counts.old) m (only (holds 9 22 40 (key_at book.now p)) (link_findings (book_of book.now) (key_at book.now p))) result.found (sink out.new counts.new) }
-    ensures few { result.found ≤ m + 6 }
-    ensures lined { Lined (parents_of (book_of book.now)) ids.new result.line × (result.line.near ≤ reach_of (source_of h at n)) }
+    report: &mut Report<'_>,
+) -> Line
+    requires few { report.old.found < 2 ^ 61 }
+    requires lined_2 { Lined (parents_of (book_of links.now.book.bytes.now)) ids.old line × (line.near ≤ reach_of (source_of links.now.book.header links.now.book.places links.now.pairs.count)) }
+    ensures reports { Reports report.old (only (holds 9 22 40 (held key.entry)) (link_findings (book_of links.now.book.bytes.now) (held key.entry))) report.new }
+    ensures few_2 { report.new.found ≤ report.old.found + 6 }
+    ensures lined { Lined (parents_of (book_of links.now.book.bytes.now)) ids.new result × (result.near ≤ reach_of (source_of links.now.book.header links.now.book.places links.now.pairs.count)) }
 {
-    if ((f.btree == 9) & (f.key_type == 22)) & (40 <= f.len) {
-        let id = drawn::key_id(book, p, f);
-        let source = source_of(h, at, n);
-        let next = ancestors::line_beside(book, work, source, line, id, ids, hints);
-        let found = show_links(book, h, at, work, n, p, f, next, ids, out, counts, m);
-        return Shown { found, line: next };
+    if !key.holds(btree_id::SNAPSHOTS, key_type::SNAPSHOT, 40) {
+        return line;
     }
-    Shown { found: m, line }
+    let book = links.book;
+    let words = links.pairs.words;
+    let source = source_of(book.header, book.places, links.pairs.count);
+    let next = ancestors::line_beside(book.bytes, words, source, line, key.id(), ids, hints);
+    show_links(links, key, next, ids, report);
+    next
 }
 
 // The findings of the snapshots, in key order. The hints say where a walk up a chain found its parents before.
-fn walk_snapshots(
-    book: &[u8],
-    h: Header,
-    at: Places,
-    work: &[u64],
-    n: usize,
-    hints: &mut [u16],
-    out: &mut [u8],
-    counts: &mut [u64],
-) -> usize
-    requires { Ready book.now h at work.now n }
-    ensures found { Found (sink out.old counts.old) (each (λ _ k. only (holds 9 22 40 k) (link_findings (book_of book.now) k)) 0 (book_of book.now).keys) result (sink out.new counts.new) }
-    ensures few { result ≤ h.keys * 6 }
+fn walk_snapshots(links: &Linked<'_, '_>, hints: &mut [u16], report: &mut Report<'_>)
+    requires { report.old.found < 2 ^ 60 }
+    ensures reports { Reports report.old (each (λ _ k. only (holds 9 22 40 k) (link_findings (book_of links.now.book.bytes.now) k)) 0 (book_of links.now.book.bytes.now).keys) report.new }
+    ensures few { report.new.found ≤ report.old.found + links.now.book.header.keys * 6 }
 {
     let mut ids = [0u32; 1024];
-    let source = source_of(h, at, n);
-    let mut line = ancestors::line_of(book, work, source, 0, 0, &mut ids, hints);
-    let mut found: usize = 0;
-    let mut left = h.keys;
-    let mut p = at.keys;
-    while 0 < left {
-        let f = book::key_front(book, p);
-        let shown = show_snapshot(
-            book, h, at, work, n, p, f, line, &mut ids, hints, out, counts, found,
-        );
-        found = shown.found;
-        line = shown.line;
-        p = p + 28 + f.len;
-        left -= 1;
+    let book = links.book;
+    let source = source_of(book.header, book.places, links.pairs.count);
+    let mut line = ancestors::line_of(book.bytes, links.pairs.words, source, 0, 0, &mut ids, hints);
+    for key in book.keys() {
+        line = show_snapshot(links, key, line, &mut ids, hints, report);
     }
-    found
 }
 
 // The same, with room for a hint for each entry of a parents table, of which there are 4,096 at most.
-fn walk_with_hints(
-    book: &[u8],
-    h: Header,
-    at: Places,
-    work: &[u64],
-    n: usize,
-    out: &mut [u8],
-    counts: &mut [u64],
-) -> usize
-    requires { Ready book.now h at work.now n }
-    ensures found { Found (sink out.old counts.old) (each (λ _ k. only (holds 9 22 40 k) (link_findings (book_of book.now) k)) 0 (book_of book.now).keys) result (sink out.new counts.new) }
-    ensures few { result ≤ h.keys * 6 }
+fn walk_with_hints(links: &Linked<'_, '_>, report: &mut Report<'_>)
+    requires { report.old.found < 2 ^ 60 }
+    ensures reports { Reports report.old (each (λ _ k. only (holds 9 22 40 k) (link_findings (book_of links.now.book.bytes.now) k)) 0 (book_of links.now.book.bytes.now).keys) report.new }
+    ensures few { report.new.found ≤ report.old.found + links.now.book.header.keys * 6 }
 {
     let mut hints = [0u16; 4096];
-    walk_snapshots(book, h, at, work, n, &mut hints, out, counts)
+    walk_snapshots(links, &mut hints, report);
 }
 
 // Tables of fewer entries are searched without hints: to clear these would take longer than the searches.
 const FEW_PARENTS: u16 = 64;
 
 // The findings of the snapshots, in key order; those of a drawn book, which has no parents table, without hints.
-fn show_snapshots(
-    book: &[u8],
-    h: Header,
-    at: Places,
-    work: &[u64],
-    n: usize,
-    out: &mut [u8],
-    counts: &mut [u64],
-) -> usize
-    requires { Ready book.now h at work.now n }
-    ensures found { Found (sink out.old counts.old) (each (λ _ k. only (holds 9 22 40 k) (link_findings (book_of book.now) k)) 0 (book_of book.now).keys) result (sink out.new counts.new) }
-    ensures few { result ≤ h.keys * 6 }
+fn show_snapshots(links: &Linked<'_, '_>, report: &mut Report<'_>)
+    requires { report.old.found < 2 ^ 60 }
+    ensures reports { Reports report.old (each (λ _ k. only (holds 9 22 40 k) (link_findings (book_of links.now.book.bytes.now) k)) 0 (book_of links.now.book.bytes.now).keys) report.new }
+    ensures few { report.new.found ≤ report.old.found + links.now.book.header.keys * 6 }
 {
-    if h.parents < FEW_PARENTS {
+    if links.book.header.parents < FEW_PARENTS {
         let mut none = [0u16; 0];
-        return walk_snapshots(book, h, at, work, n, &mut none, out, counts);
+        walk_snapshots(links, &mut none, report);
+        return;
     }
-    walk_with_hints(book, h, at, work, n, out, counts)
+    walk_with_hints(links, report);
 }
 
 // The finding of a tree's subvolume: it is not there, or its snapshot is in another tree.
-fn show_master(
-    book: &[u8],
-    h: Header,
-    at: Places,
-    work: &[u64],
-    n: usize,
-    id: u32,
-    subvolume: u32,
-    out: &mut [u8],
-    counts: &mut [u64],
-    m: usize,
-) -> usize
-    requires { Ready book.now h at work.now n × (m < 2 ^ 62) }
-    ensures added { Added (sink out.old counts.old) m (master_findings (tree_of_map (book_of book.now)) id subvolume (lookup subvolume (book_of book.now).subvolumes)) result (sink out.new counts.new) }
-    ensures few { result ≤ m + 1 }
+fn show_master(links: &Linked<'_, '_>, id: u32, subvolume: u32, report: &mut Report<'_>)
+    requires { report.old.found < 2 ^ 62 }
+    ensures reports { Reports report.old (master_findings (tree_of_map (book_of links.now.book.bytes.now)) id subvolume (lookup subvolume (book_of links.now.book.bytes.now).subvolumes)) report.new }
+    ensures few { report.new.found ≤ report.old.found + 1 }
 {
-    match snapshot_of(book, h, at, subvolume) {
-        MaybeU32::Is(snap) => {
-            let other = is_other(tree_of(book, h, at, work, n, snap), id);
-            emit_if(out, counts, m, other, 40, id as u64, subvolume as u64)
-        }
-        MaybeU32::Absent => emit(out, counts, m, 31, id as u64, subvolume as u64),
-    }
+    let Some(snapshot) = snapshot_of(links.book, subvolume) else {
+        report.emit(
+            Kind::SnapshotTreeToMissingSubvol,
+            id as u64,
+            subvolume as u64,
+        );
+        return;
+    };
+    let other = is_other(tree_of(links, snapshot), id);
+    report.emit_if(
+        other,
+        Kind::SnapshotTreeToWrongSubvol,
+        id as u64,
+        subvolume as u64,
+    );
 }
 
-// The findings of the tree record at byte p.
-fn show_tree(
-    book: &[u8],
-    h: Header,
-    at: Places,
-    work: &[u64],
-    n: usize,
-    p: usize,
-    f: KeyFront,
-    out: &mut [u8],
-    counts: &mut [u64],
-    m: usize,
-) -> usize
-    requires { Ready book.now h at work.now n × AtKey book.now p f × (8 ≤ f.len) × (m < 2 ^ 61) }
-    ensures added { Added (sink out.old counts.old) m (tree_findings (book_of book.now) (tree_at book.now (id_of (key_at book.now p), p))) result (sink out.new counts.new) }
-    ensures few { result ≤ m + 2 }
+// The findings of a tree record.
+fn show_tree(links: &Linked<'_, '_>, key: Key<'_>, report: &mut Report<'_>)
+    requires { (8 ≤ length (held key).value) × (report.old.found < 2 ^ 61) }
+    ensures reports { Reports report.old (tree_findings (book_of links.now.book.bytes.now) (tree_at key.entry.book.now (id_of (held key.entry), key.entry.at))) report.new }
+    ensures few { report.new.found ≤ report.old.found + 2 }
 {
-    let id = drawn::key_id(book, p, f);
-    let subvolume = walk::key_word(book, p, f, 0);
-    let root = walk::key_word(book, p, f, 4);
-    let back = is_the(tree_of(book, h, at, work, n, root), id);
-    let found = emit_if(out, counts, m, !back, 39, id as u64, root as u64);
-    show_master(book, h, at, work, n, id, subvolume, out, counts, found)
+    let id = key.id();
+    let subvolume = key.word(0);
+    let root = key.word(4);
+    let back = is_the(tree_of(links, root), id);
+    report.emit_if(
+        !back,
+        Kind::SnapshotTreeToBadRootSnapshot,
+        id as u64,
+        root as u64,
+    );
+    show_master(links, id, subvolume, report);
 }
 
 // The findings of pair i, if it is the last tree record of its id.
-fn show_pair(
-    book: &[u8],
-    h: Header,
-    at: Places,
-    work: &[u64],
-    n: usize,
-    i: usize,
-    out: &mut [u8],
-    counts: &mut [u64],
-    m: usize,
-) -> usize
-    requires { Ready book.now h at work.now n × (i < n) × (m < 2 ^ 61) }
-    ensures added { Added (sink out.old counts.old) m (only (last_at 0 (drop i (pairs_of work.now n))) (tree_findings (book_of book.now) (tree_at book.now (get_or work.now (2 * i) 0, get_or work.now (2 * i + 1) 0 % 2 ^ 32)))) result (sink out.new counts.new) }
-    ensures few { result ≤ m + 2 }
+fn show_pair(links: &Linked<'_, '_>, i: usize, report: &mut Report<'_>)
+    requires { (i < links.now.pairs.count) × (report.old.found < 2 ^ 61) }
+    ensures reports { Reports report.old (only (last_at 0 (drop i (pairs_of links.now.pairs.words.now links.now.pairs.count))) (tree_findings (book_of links.now.book.bytes.now) (tree_at links.now.book.bytes.now (get_or links.now.pairs.words.now (2 * i) 0, get_or links.now.pairs.words.now (2 * i + 1) 0 % 2 ^ 32)))) report.new }
+    ensures few { report.new.found ≤ report.old.found + 2 }
 {
-    if maps::is_last(work, n, i, 0) {
-        let q = 2 * i + 1;
-        let p = (work[q] % 0x1_0000_0000) as usize;
-        let f = book::key_front(book, p);
-        return show_tree(book, h, at, work, n, p, f, out, counts, m);
+    let words = links.pairs.words;
+    if maps::is_last(words, links.pairs.count, i, 0) {
+        let at = (words[2 * i + 1] % 0x1_0000_0000) as usize;
+        show_tree(links, Key::read(links.book.bytes, at), report);
     }
-    m
 }
 
 // The findings of the trees, in id order.
-fn show_trees(
-    book: &[u8],
-    h: Header,
-    at: Places,
-    work: &[u64],
-    n: usize,
-    out: &mut [u8],
-    counts: &mut [u64],
-) -> usize
-    requires { Ready book.now h at work.now n }
-    ensures found { Found (sink out.old counts.old) (each (λ _ e. tree_findings (book_of book.now) e) 0 (tree_map (book_of book.now))) result (sink out.new counts.new) }
-    ensures few { result ≤ n * 2 }
+fn show_trees(links: &Linked<'_, '_>, report: &mut Report<'_>)
+    requires { report.old.found < 2 ^ 60 }
+    ensures reports { Reports report.old (each (λ _ e. tree_findings (book_of links.now.book.bytes.now) e) 0 (tree_map (book_of links.now.book.bytes.now))) report.new }
+    ensures few { report.new.found ≤ report.old.found + links.now.pairs.count * 2 }
 {
-    let mut found: usize = 0;
-    let mut i: usize = 0;
-    while i < n {
-        found = show_pair(book, h, at, work, n, i, out, counts, found);
-        i += 1;
+    for i in 0..links.pairs.count {
+        show_pair(links, i, report);
     }
-    found
-}
-
-// The findings of the trees and of the snapshots.
-fn show_all(
-    book: &[u8],
-    h: Header,
-    at: Places,
-    work: &[u64],
-    n: usize,
-    out: &mut [u8],
-    counts: &mut [u64],
-) -> usize
-    requires { Ready book.now h at work.now n }
-    ensures found { Found (sink out.old counts.old) (each (λ _ e. tree_findings (book_of book.now) e) 0 (tree_map (book_of book.now)) ++ each (λ _ k. only (holds 9 22 40 k) (link_findings (book_of book.now) k)) 0 (book_of book.now).keys) result (sink out.new counts.new) }
-    ensures few { result ≤ h.keys * 8 }
-{
-    let trees = show_trees(book, h, at, work, n, out, counts);
-    let from = findings::start_of(out.len(), trees);
-    trees + show_snapshots(book, h, at, work, n, &mut out[from..], counts)
 }
 
 // The findings of links between snapshots and their trees, if the snapshot_trees btree is present.
-pub fn snapshot_links(
-    book: &[u8],
-    h: Header,
-    at: Places,
-    out: &mut [u8],
-    counts: &mut [u64],
-    work: &mut [u64],
-) -> usize
-    requires { Opened book.now h at × (2 * h.keys ≤ length work.old) }
-    ensures found { Found (sink out.old counts.old) (snapshot_links (book_of book.now)) result (sink out.new counts.new) }
-    ensures few { result ≤ h.keys * 8 }
+pub fn snapshot_links(book: Book<'_>, work: &mut [u64], report: &mut Report<'_>)
+    requires room { 2 * book.header.keys ≤ length work.old }
+    requires found { report.old.found < 2 ^ 59 }
+    ensures reports { Reports report.old (snapshot_links (book_of book.entry.bytes.now)) report.new }
+    ensures few { report.new.found ≤ report.old.found + book.entry.header.keys * 8 }
 {
-    if !h.trees {
-        return 0;
+    if !book.header.trees {
+        return;
     }
-    let n = drawn::put_links(book, h, at, work);
-    sorting::sort_pairs(work, n);
-    show_all(book, h, at, work, n, out, counts)
+    let count = drawn::put_links(book, work);
+    sorting::sort_pairs(work, count);
+    let pairs = SortedPairs::new(work, count);
+    let links = Linked { book, pairs };
+    show_trees(&links, report);
+    show_snapshots(&links, report);
 }

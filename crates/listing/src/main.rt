@@ -2,10 +2,12 @@
 // each finding; or `refused`, the refusal's number and its place. Longer input is written as `refused 1 0`, and input that can't be read as `not read`.
 #![tactic(auto)]
 
-ghost use Rattle.listing.specs.Reading.{Within};
+ghost use Rattle.std.specs.Prelude.{IfOk};
+ghost use Rattle.io.specs.Counts.{IsPrefixLen};
 
+use book::refusal::Reason;
 use lines::STDOUT_FILENO;
-use report::Input;
+use report::ReadError;
 use std::io::{Read, Stdin};
 
 // What a read answered, as C's read answers: so many bytes, or -1 for an error.
@@ -17,42 +19,38 @@ fn answer_of(read: std::io::Result<usize>) -> isize {
 }
 
 // Reads standard input to its end, as far as there is room, unless a read fails. Nothing is known of the bytes.
-fn read_book(input: &mut Stdin, buffer: &mut [u8]) -> Input
-    ensures { Within result buffer.new }
+fn read_book(input: &mut Stdin, buffer: &mut [u8]) -> Result<usize, ReadError>
+    ensures { IfOk result (λ n. IsPrefixLen n buffer.new) }
 {
     let mut n: usize = 0;
     while n < buffer.len() {
         let answer = answer_of(input.read(&mut buffer[n..]));
-        match report::gave(answer, &buffer[n..]) {
-            Input::Error => return Input::Error,
-            Input::Bytes(more) => {
-                if more == 0 {
-                    return Input::Bytes(n);
-                }
-                n += more;
-            }
+        let more = report::gave(answer, &buffer[n..])?;
+        if more == 0 {
+            return Ok(n);
         }
+        n += more;
     }
-    Input::Bytes(n)
+    Ok(n)
 }
 
 // Writes what the main call answers, and refusal 1 for more than 65,536 bytes.
 fn judge(book: &[u8]) {
     if 65536 < book.len() {
-        report::refused(1, 0);
+        let _ = report::refused(Reason::BookLong as usize, 0);
         return;
     }
     let mut findings = [0u8; 65535];
     let mut work = [0u64; 4678];
-    report::list(book, &mut findings, &mut work);
+    let _ = report::list(book, &mut findings, &mut work);
 }
 
 fn main(rt: HostRuntime) {
     // a byte more than is judged
     let mut buffer = [0u8; 65537];
     match read_book(&mut rt.stdin(), &mut buffer) {
-        Input::Bytes(n) => judge(&buffer[..n]),
-        Input::Error => {
+        Ok(n) => judge(&buffer[..n]),
+        Err(_) => {
             io::write_all(STDOUT_FILENO, b"not read\n");
         }
     }

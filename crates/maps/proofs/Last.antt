@@ -1,10 +1,10 @@
 -- Laws of the last places of sorted pairs: they rise, they have what `last_place` finds, and a walk goes through them pair after pair.
+use Rattle.std.specs.Prelude.{None, Option, Some}
 use Prim.Native.Nat.{ℕ, zero, suc, ◌+◌, ◌*◌, ◌/◌, ◌%◌, ◌^◌, ◌≤◌, ◌<◌, zero-le, suc-le-suc}
 use mathlib.Core.Path.{◌≡◌, refl, sym, ap, ◌∙◌}
 use mathlib.Core.Bool.{Bool, true, false, true≢false, cond, not, ◌&&◌}
 use mathlib.Core.Logic.{⊎_elim}
 use mathlib.Core.List.{List, [], ◌∷◌, ◌++◌}
-use mathlib.Core.Option.{Option, none, some}
 use native.Mathlib.Nat.{le_trans, le_of_suc-le-suc, not-suc-le-zero}
 use native.Mathlib.Omega.{arith}
 use lib.ListN.{length, get_or, drop}
@@ -12,9 +12,7 @@ use lib.Dec.{eqb}
 use borrow.Author.Tests.{eq-eqb, ne_eqb, eqb-true}
 use Rattle.findings.specs.Findings.{Finding, only, each}
 use Rattle.findings.proofs.Walk.{drop_at, drop_past, each_any}
-use Rattle.pairs.specs.declared.MaybeU64.{MaybeU64}
-use Rattle.pairs.specs.declared.MaybeU64.TheVariants.{Is, Absent}
-use Rattle.pairs.specs.Pairs.{pair_at, pairs_of, Sorted, or_else}
+use Rattle.pairs.specs.Pairs.{pair_at, pairs_of, Sorted, or_else, pair}
 use Rattle.pairs.proofs.Order.{tested, both_true, same_or_not, sorted_tail, sorted_least}
 use Rattle.pairs.proofs.Words.{pair_first, pair_second, first, second, length_pairs, pairs_at}
 use Rattle.book.specs.Maps.{lookup}
@@ -24,18 +22,18 @@ use Rattle.maps.proofs.Maps.{lookup_here, lookup_past, Above, Rises}
 use Rattle.maps.proofs.Pairs.{for_parts, parts_for, for_from, for_below, between_for, not_for, last_past, last_here}
 
 -- a place, as what a map has
-unfoldable pub place_of : MaybeU64 → Option ℕ
-place_of Absent = none
-place_of (Is q) = some q
+unfoldable pub place_of : Option ℕ → Option ℕ
+place_of None = None
+place_of (Some q) = Some q
 
 pub sorted_from : (z : ℕ) (zs : List ℕ) → Sorted (z ∷ zs) → (k : ℕ) → k < length (z ∷ zs) → z ≤ get_or (z ∷ zs) k 0
 unfolding Sorted
 sorted_from z zs s k l = s zero k zero-le l
 
-or_is : (m : MaybeU64) (q : ℕ) (other : MaybeU64) → or_else (or_else m (Is q)) other ≡ or_else m (Is q)
+or_is : (m : Option ℕ) (q : ℕ) (other : Option ℕ) → or_else (or_else m (Some q)) other ≡ or_else m (Some q)
 unfolding or_else
-or_is (Is v) q other = refl
-or_is Absent q other = refl
+or_is (Some v) q other = refl
+or_is None q other = refl
 
 numbers_rise : (x y : ℕ) → x ≤ y → (number_in y ≡ number_in x → ⊥) → number_in x < number_in y
 unfolding number_in
@@ -60,14 +58,14 @@ module _ (which : ℕ) (small : which < 2 ^ 32) where
   after y ys s e g (suc k) a l = ended y ys s e g k (le_of_suc-le-suc l)
 
   -- where the number goes on, its last pair is there
-  goes_last : (x : ℕ) (ys : List ℕ) (m : MaybeU64) → goes_on which x ys ≡ true → or_else (last_place which x ys) m ≡ last_place which x ys
+  goes_last : (x : ℕ) (ys : List ℕ) (m : Option ℕ) → goes_on which x ys ≡ true → or_else (last_place which x ys) m ≡ last_place which x ys
   unfolding goes_on last_place
   goes_last x [] m g = absurd (true≢false (sym g))
   goes_last x (z ∷ zs) m g = rw g (or_is (last_place which x zs) (place_in z) m)
 
   pass_by : (x y : ℕ) (ys : List ℕ) → goes_on which x ys ≡ true → last_place which x (y ∷ ys) ≡ last_place which x ys
   unfolding last_place
-  pass_by x y ys g = goes_last x ys (cond (is_for which x y) (Is (place_in y)) Absent) g
+  pass_by x y ys g = goes_last x ys (cond (is_for which x y) (Some (place_in y)) None) g
 
   -- a pair that is not its number's last, and one that is
   places_past : (y : ℕ) (ys : List ℕ) → last_at which (y ∷ ys) ≡ false → last_places which (y ∷ ys) ≡ last_places which ys
@@ -179,6 +177,11 @@ module _ (w : List ℕ) (n : ℕ) (i : ℕ) (l : i < n) (small : (k : ℕ) → g
   each_last which f =
       ap (each (λ _ e. f e) 0) (places_next which)
       ∙ each_cond f (last_at which (drop i (pairs_of w n))) (get_or w (2 * i) 0, get_or w (2 * i + 1) 0 % 2 ^ 32) (last_places which (drop (i + 1) (pairs_of w n)))
+
+-- the place in a pair, by its second word
+pub place_second : (w : List ℕ) (n i : ℕ) → i < n → place_in (get_or (pairs_of w n) i 0) ≡ get_or w (2 * i + 1) 0 % 2 ^ 32
+unfolding place_in pair_at pair
+place_second w n i l = rw (pairs_at w n i l) (omega arith)
 
 -- the words of a pair
 pub words_for : (w : List ℕ) (i which number : ℕ) → get_or w (2 * i + 1) 0 < 2 ^ 64

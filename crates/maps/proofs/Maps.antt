@@ -1,9 +1,9 @@
 -- Laws of maps: what a map made from pairs has for a number, and that maps which rise and have the same for every number are the same.
+use Rattle.std.specs.Prelude.{None, Option, Some}
 use Prim.Native.Nat.{ℕ, ◌≤◌, ◌<◌}
 use mathlib.Core.Path.{◌≡◌, refl, sym, ap, ◌∙◌}
 use mathlib.Core.Bool.{Bool, true, false, cond}
 use mathlib.Core.List.{List, [], ◌∷◌, map}
-use mathlib.Core.Option.{Option, none, some}
 use native.Mathlib.Omega.{arith}
 use lib.Dec.{eqb}
 use borrow.Author.Tests.{eq-eqb, ne_eqb, lt-ltb, le-ltb}
@@ -12,7 +12,7 @@ use Rattle.book.specs.Maps.{lookup, insert, insert_all, collect}
 
 module _ {A : Type 0} where
   -- the pair with the number is found, or what stands behind it
-  pub lookup_here : (x : ℕ) (e : ℕ × A) (m : List (ℕ × A)) → x ≡ e.0 → lookup x (e ∷ m) ≡ some e.1
+  pub lookup_here : (x : ℕ) (e : ℕ × A) (m : List (ℕ × A)) → x ≡ e.0 → lookup x (e ∷ m) ≡ Some e.1
   unfolding lookup
   lookup_here x e m h = rw (eq-eqb x e.0 h)
 
@@ -37,23 +37,23 @@ module _ {A : Type 0} where
 
   -- the first where it is there, else the second
   unfoldable pub or_some : Option A → Option A → Option A
-  or_some (some x) other = some x
-  or_some none other = other
+  or_some (Some x) other = Some x
+  or_some None other = other
 
   -- what the last pair with the number has
   unfoldable pub last_for : ℕ → List (ℕ × A) → Option A
-  last_for x [] = none
-  last_for x (e ∷ es) = or_some (last_for x es) (cond (eqb x e.0) (some e.1) none)
+  last_for x [] = None
+  last_for x (e ∷ es) = or_some (last_for x es) (cond (eqb x e.0) (Some e.1) None)
 
   some_assoc : (a b c : Option A) → or_some a (or_some b c) ≡ or_some (or_some a b) c
   unfolding or_some
-  some_assoc (some x) b c = refl
-  some_assoc none b c = refl
+  some_assoc (Some x) b c = refl
+  some_assoc None b c = refl
 
-  some_cond : (t : Bool) (a b : Option A) (x : A) → or_some a (cond t (some x) b) ≡ or_some (or_some a (cond t (some x) none)) b
+  some_cond : (t : Bool) (a b : Option A) (x : A) → or_some a (cond t (Some x) b) ≡ or_some (or_some a (cond t (Some x) None)) b
   unfolding or_some
-  some_cond true a b x = some_assoc a (some x) b
-  some_cond false a b x = some_assoc a none b
+  some_cond true a b x = some_assoc a (Some x) b
+  some_cond false a b x = some_assoc a None b
 
   inserted_lookup : (x : ℕ) (m es : List (ℕ × A)) → lookup x (insert_all m es) ≡ or_some (last_for x es) (lookup x m)
   unfolding insert_all last_for or_some lookup
@@ -61,10 +61,10 @@ module _ {A : Type 0} where
   inserted_lookup x m (e ∷ es) =
       inserted_lookup x (insert e m) es ∙ ap (or_some (last_for x es)) (insert_lookup x e m) ∙ some_cond (eqb x e.0) (last_for x es) (lookup x m) e.1
 
-  pub some_none : (a : Option A) → or_some a none ≡ a
+  pub some_none : (a : Option A) → or_some a None ≡ a
   unfolding or_some
-  some_none (some x) = refl
-  some_none none = refl
+  some_none (Some x) = refl
+  some_none None = refl
 
   -- the map made from pairs has the last pair of each number
   pub collect_lookup : (x : ℕ) (es : List (ℕ × A)) → lookup x (collect es) ≡ last_for x es
@@ -110,12 +110,12 @@ module _ {A : Type 0} where
   collect_rises es = inserted_rises [] es tt
 
   -- a map that rises has nothing for what its numbers are above
-  pub above_none : (x y : ℕ) (m : List (ℕ × A)) → y ≤ x → Above x m → Rises m → lookup y m ≡ none
+  pub above_none : (x y : ℕ) (m : List (ℕ × A)) → y ≤ x → Above x m → Rises m → lookup y m ≡ None
   unfolding Above Rises lookup
   above_none x y [] h a r = refl
   above_none x y (e ∷ m) h a r = rw (ne_eqb y e.0 (λ s. absurd (omega arith))) (above_none e.0 y m (omega arith) r.0 r.1)
 
-  unlike : {X : Type 0} (x : A) → none ≡ some x → X
+  unlike : {X : Type 0} (x : A) → None ≡ Some x → X
   unlike x e = let z : ◌≡◌ {A = ℕ} 0 1 = cc in absurd (omega arith)
 
   -- maps that rise and have the same for every number are the same
@@ -136,7 +136,7 @@ module _ {A : Type 0} where
       (λ s. unlike f.1 (sym (lookup_past f.0 e m (λ u. s (sym u)) ∙ above_none e.0 f.0 m (omega arith) r.0 r.1) ∙ h f.0 ∙ lookup_here f.0 f m' refl)))
 
 -- a map with what it has replaced
-pub map_lookup : {A B : Type 0} (f : A → B) (g : Option A → Option B) → g none ≡ none → ((a : A) → g (some a) ≡ some (f a))
+pub map_lookup : {A B : Type 0} (f : A → B) (g : Option A → Option B) → g None ≡ None → ((a : A) → g (Some a) ≡ Some (f a))
     → (x : ℕ) (m : List (ℕ × A)) → lookup x (map (λ e. (e.0, f e.1)) m) ≡ g (lookup x m)
 unfolding lookup
 map_lookup f g n s x [] = sym n

@@ -1,4 +1,5 @@
 -- Laws of pairs of numbers and places, as plain lists: their parts, what is kept of them, the last of a number.
+use Rattle.std.specs.Prelude.{None, Option, Some}
 use Prim.Native.Nat.{ℕ, zero, suc, ◌+◌, ◌-◌, ◌*◌, ◌^◌, ◌≤◌, ◌<◌, zero-le, suc-le-suc}
 use mathlib.Core.Path.{◌≡◌, refl, sym, ap, ◌∙◌}
 use mathlib.Core.Bool.{Bool, true, false, true≢false, cond, ◌&&◌}
@@ -10,8 +11,6 @@ use lib.ListN.{length, get_or}
 use lib.Dec.{eqb}
 use borrow.Author.Tests.{eq-eqb, ne_eqb, eqb-true}
 use Rattle.findings.specs.Findings.{keep}
-use Rattle.pairs.specs.declared.MaybeU64.{MaybeU64}
-use Rattle.pairs.specs.declared.MaybeU64.TheVariants.{Is, Absent}
 use Rattle.pairs.specs.Pairs.{pair, sort, Sorted, count_below, or_else}
 use Rattle.pairs.specs.Counts.{count, Permuted}
 use Rattle.pairs.proofs.Order.{tested, both_true, same_or_not, less_or_not, there, each, sorted_tail, sorted_cons, sorted_least, sort_permuted, sort_sorted, sorted_unique}
@@ -143,23 +142,23 @@ keep_parts which number (x ∷ xs) = by (eqb (number_in x) number) (eqb (which_i
 -- ---- the last pair of a map with a number
 module _ (which number : ℕ) where
   -- there is none
-  pub last_none : (xs : List ℕ) → ((k : ℕ) → k < length xs → is_for which number (get_or xs k 0) ≡ false) → last_place which number xs ≡ Absent
+  pub last_none : (xs : List ℕ) → ((k : ℕ) → k < length xs → is_for which number (get_or xs k 0) ≡ false) → last_place which number xs ≡ None
   unfolding last_place or_else
   last_none [] h = refl
   last_none (x ∷ xs) h = rw (last_none xs (λ k l. h (suc k) (suc-le-suc l)), h zero (suc-le-suc zero-le))
 
   -- the one at j, where none comes after it
   pub last_here : (xs : List ℕ) (j : ℕ) → j < length xs → is_for which number (get_or xs j 0) ≡ true
-      → ((k : ℕ) → j < k → k < length xs → is_for which number (get_or xs k 0) ≡ false) → last_place which number xs ≡ Is (place_in (get_or xs j 0))
+      → ((k : ℕ) → j < k → k < length xs → is_for which number (get_or xs k 0) ≡ false) → last_place which number xs ≡ Some (place_in (get_or xs j 0))
   unfolding last_place or_else
   last_here [] j l e h = absurd (not-suc-le-zero l)
   last_here (x ∷ xs) zero l e h = rw (last_none xs (λ k l. h (suc k) (suc-le-suc zero-le) (suc-le-suc l)), e)
   last_here (x ∷ xs) (suc j) l e h = rw (last_here xs j (le_of_suc-le-suc l) e (λ k a b. h (suc k) (suc-le-suc a) (suc-le-suc b)))
 
-  or_absent : (a : MaybeU64) → or_else a Absent ≡ a
+  or_absent : (a : Option ℕ) → or_else a None ≡ a
   unfolding or_else
-  or_absent (Is x) = refl
-  or_absent Absent = refl
+  or_absent (Some x) = refl
+  or_absent None = refl
 
   -- a pair that is not one of them is passed over
   pub last_past : (x : ℕ) (xs : List ℕ) → is_for which number x ≡ false → last_place which number (x ∷ xs) ≡ last_place which number xs
@@ -171,24 +170,24 @@ module _ (which number : ℕ) where
   unfolding keep last_place
   last_kept [] = refl
   last_kept (x ∷ xs) = ⊎_elim
-      (λ t. rw t (rw t (ap (λ (m : MaybeU64). or_else m (Is (place_in x))) (last_kept xs))))
+      (λ t. rw t (rw t (ap (λ (m : Option ℕ). or_else m (Some (place_in x))) (last_kept xs))))
       (λ t. rw t (last_kept xs ∙ sym (or_absent (last_place which number xs))))
       (tested (is_for which number x))
 
   -- what holds of the place of each of them holds of the last's
   pub last_holds : (P : ℕ → Type 0) (xs : List ℕ) → ((y : ℕ) → 0 < count y xs → is_for which number y ≡ true → P (place_in y))
-      → (q : ℕ) → last_place which number xs ≡ Is q → P q
+      → (q : ℕ) → last_place which number xs ≡ Some q → P q
   unfolding last_place or_else count
   last_holds P [] h q e = let z : ◌≡◌ {A = ℕ} 0 1 = cc in absurd (omega arith)
   last_holds P (x ∷ xs) h q e = by (last_place which number xs) refl (last_holds P xs (λ y c. h y (omega arith)) q)
     where
-      here : (b : Bool) → is_for which number x ≡ b → cond b (Is (place_in x)) Absent ≡ Is q → P q
+      here : (b : Bool) → is_for which number x ≡ b → cond b (Some (place_in x)) None ≡ Some q → P q
       here true t e = let same : place_in x ≡ q = cc in rw (← same) (h x (rw (eq-eqb x x refl) (omega arith)) t)
       here false t e = let z : ◌≡◌ {A = ℕ} 0 1 = cc in absurd (omega arith)
 
-      by : (m : MaybeU64) → last_place which number xs ≡ m → (last_place which number xs ≡ Is q → P q) → P q
-      by (Is v) t later = later (rw t (rw t at e))
-      by Absent t later = here (is_for which number x) refl (rw t at e)
+      by : (m : Option ℕ) → last_place which number xs ≡ m → (last_place which number xs ≡ Some q → P q) → P q
+      by (Some v) t later = later (rw t (rw t at e))
+      by None t later = here (is_for which number x) refl (rw t at e)
 
 -- ---- in sorted pairs the one before the place where they pass a map's pairs with a number settles it
 module _ (which number : ℕ) (small : which < 2 ^ 32) (xs : List ℕ) (r : ℕ) (s : Sorted xs) (c : r ≡ count_below (pair number ((which + 1) * 2 ^ 32)) xs) where
@@ -199,10 +198,10 @@ module _ (which number : ℕ) (small : which < 2 ^ 32) (xs : List ℕ) (r : ℕ)
   inside : 0 < r → r - 1 < length xs
   inside z = omega (arith, bound_inside (pair number ((which + 1) * 2 ^ 32)) xs)
 
-  pub last_bound : 0 < r → is_for which number (get_or xs (r - 1) 0) ≡ true → last_place which number xs ≡ Is (place_in (get_or xs (r - 1) 0))
+  pub last_bound : 0 < r → is_for which number (get_or xs (r - 1) 0) ≡ true → last_place which number xs ≡ Some (place_in (get_or xs (r - 1) 0))
   last_bound z e = last_here which number xs (r - 1) (inside z) e (λ k a l. past k (omega arith) l)
 
-  pub none_bound : (0 < r → is_for which number (get_or xs (r - 1) 0) ≡ true → ⊥) → last_place which number xs ≡ Absent
+  pub none_bound : (0 < r → is_for which number (get_or xs (r - 1) 0) ≡ true → ⊥) → last_place which number xs ≡ None
   unfolding Sorted
   none_bound h = last_none which number xs (λ k l. less_or_not k r
       (λ b. not_for which number (get_or xs k 0) (λ t.

@@ -1,17 +1,15 @@
 -- The main laws: the pairs that a walk over the keys put, sorted, are the map that `map_of` makes.
+use Rattle.std.specs.Prelude.{None, Option, Some}
 use Prim.Native.Nat.{ℕ, zero, suc, ◌+◌, ◌*◌, ◌%◌, ◌^◌, ◌≤◌, ◌<◌}
 use mathlib.Core.Path.{◌≡◌, refl, sym, ap, ap₂, ◌∙◌, subst}
 use mathlib.Core.Bool.{Bool, true, false, cond, ◌&&◌}
 use mathlib.Core.List.{List, [], ◌∷◌, ◌++◌, map}
-use mathlib.Core.Option.{Option, none, some}
 use native.Mathlib.Nat.{le_refl, le_trans, not-suc-le-zero}
 use native.Mathlib.Omega.{arith}
 use lib.ListN.{length, get_or, drop}
 use lib.Dec.{eqb}
 use borrow.Author.Tests.{eq-eqb, ne_eqb, eqb-true}
 use Rattle.findings.specs.Findings.{Finding, keep, each}
-use Rattle.pairs.specs.declared.MaybeU64.{MaybeU64}
-use Rattle.pairs.specs.declared.MaybeU64.TheVariants.{Is, Absent}
 use Rattle.pairs.specs.Pairs.{pair, pairs_of, sort, Sorted, has, or_else}
 use Rattle.pairs.specs.Counts.{count}
 use Rattle.pairs.proofs.Order.{both_true, same_or_not, there, sorted_tail, sorted_cons, sort_sorted, sorted_by}
@@ -45,22 +43,22 @@ pub record Held (test : Bkey → Bool) (number : Bkey → ℕ) (s : List ℕ) (x
   pub inside : key_end s q ≤ length s
 
 module _ {A : Type 0} (word : Bkey → A) (s : List ℕ) where
-  word_or : (m m' : MaybeU64) → word_at word s (or_else m m') ≡ or_some (word_at word s m) (word_at word s m')
+  word_or : (m m' : Option ℕ) → word_at word s (or_else m m') ≡ or_some (word_at word s m) (word_at word s m')
   unfolding word_at or_else or_some
-  word_or (Is q) m' = refl
-  word_or Absent m' = refl
+  word_or (Some q) m' = refl
+  word_or None m' = refl
 
   -- the same by the place alone
   unfoldable hold : Option ℕ → Option A
-  hold none = none
-  hold (some q) = some (word (key_at s q))
+  hold None = None
+  hold (Some q) = Some (word (key_at s q))
 
-  word_place : (m : MaybeU64) → hold (place_of m) ≡ word_at word s m
+  word_place : (m : Option ℕ) → hold (place_of m) ≡ word_at word s m
   unfolding hold place_of word_at
-  word_place (Is q) = refl
-  word_place Absent = refl
+  word_place (Some q) = refl
+  word_place None = refl
 
-  mapped_lookup : (x : ℕ) (m : MaybeU64) (l : List (ℕ × ℕ)) → lookup x l ≡ place_of m → lookup x (map (λ e. (e.0, word (key_at s e.1))) l) ≡ word_at word s m
+  mapped_lookup : (x : ℕ) (m : Option ℕ) (l : List (ℕ × ℕ)) → lookup x l ≡ place_of m → lookup x (map (λ e. (e.0, word (key_at s e.1))) l) ≡ word_at word s m
   unfolding hold
   mapped_lookup x m l e = map_lookup (λ q. word (key_at s q)) hold refl (λ q. refl) x l ∙ ap hold e ∙ word_place m
 
@@ -132,7 +130,7 @@ module _ (which : ℕ) (test : Bkey → Bool) (number : Bkey → ℕ) (s : List 
         by false t h later = later h
 
     -- the last of them is what the map has
-    pub last_own : (p : ℕ) (r : List ℕ) → p < 2 ^ 32 → last_place which x (place_pair which x p ∷ r) ≡ or_else (last_place which x r) (Is p)
+    pub last_own : (p : ℕ) (r : List ℕ) → p < 2 ^ 32 → last_place which x (place_pair which x p ∷ r) ≡ or_else (last_place which x r) (Some p)
     unfolding last_place
     last_own p r h = rw (place_for which x p w h, place_part which x p w h)
 
@@ -150,7 +148,7 @@ module _ (which : ℕ) (test : Bkey → Bool) (number : Bkey → ℕ) (s : List 
             ≡ word_at word s (last_place which x (cond (t && eqb (number (key_at s p)) x) (place_pair which x p ∷ own n (key_end s p)) (own n (key_end s p))))
         by true same = same_or_not (number (key_at s p)) x
             (λ e. rw (eq-eqb x (number (key_at s p)) (sym e), eq-eqb (number (key_at s p)) x e, last_own p (own n (key_end s p)) (near n p fit))
-            (ap (λ (o : Option A). or_some o (some (word (key_at s p)))) same ∙ sym (word_or word s (last_place which x (own n (key_end s p))) (Is p))))
+            (ap (λ (o : Option A). or_some o (Some (word (key_at s p)))) same ∙ sym (word_or word s (last_place which x (own n (key_end s p))) (Some p))))
             (λ d. rw (ne_eqb x (number (key_at s p)) (λ e. d (sym e)), ne_eqb (number (key_at s p)) x d) (some_none known ∙ same))
         by false same = same
 
@@ -179,7 +177,7 @@ module _ {which : ℕ} {of : ℕ → Bkey → List ℕ} {test : Bkey → Bool} {
   pair_held i l e = there_held (get_or xs i 0) (there xs i l) e
 
   -- the last place of a number is the place of a key with it
-  pub find_held : (x q : ℕ) → last_place which x xs ≡ Is q → Held test number s x q
+  pub find_held : (x q : ℕ) → last_place which x xs ≡ Some q → Held test number s x q
   find_held x q e = last_holds which x (Held test number s x) xs
       (λ y h t. let both = for_parts which x y t in subst (λ (z : ℕ). Held test number s z (place_in y)) both.0 (there_held y h both.1)) q e
 

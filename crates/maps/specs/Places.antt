@@ -1,8 +1,6 @@
 -- What stands for such a map in the work words: sorted pairs of a number and a place. A place lies below 2 ^ 32; two maps and sets of
 -- numbers below 2 ^ 32 share the words by what stands above that.
-use Rattle.std.specs.Prelude.{ℕ, ◌+◌, ◌*◌, ◌/◌, ◌%◌, ◌^◌, Bool, false, cond, not, ◌&&◌, List, [], ◌∷◌, eqb}
-use Rattle.pairs.specs.declared.MaybeU64.{MaybeU64}
-use Rattle.pairs.specs.declared.MaybeU64.TheVariants.{Is, Absent}
+use Rattle.std.specs.Prelude.{ℕ, ◌+◌, ◌*◌, ◌/◌, ◌%◌, ◌^◌, Bool, false, cond, not, ◌&&◌, List, [], ◌∷◌, eqb, None, Option, Some}
 use Rattle.pairs.specs.Pairs.{pair, or_else}
 
 -- the pair of a number and a place in one of the maps
@@ -24,9 +22,9 @@ unfoldable pub is_for : ℕ → ℕ → ℕ → Bool
 is_for which number x = eqb (number_in x) number && eqb (which_in x) which
 
 -- the place in the last pair of a map with a number
-unfoldable pub last_place : ℕ → ℕ → List ℕ → MaybeU64
-last_place which number [] = Absent
-last_place which number (x ∷ xs) = or_else (last_place which number xs) (cond (is_for which number x) (Is (place_in x)) Absent)
+unfoldable pub last_place : ℕ → ℕ → List ℕ → Option ℕ
+last_place which number [] = None
+last_place which number (x ∷ xs) = or_else (last_place which number xs) (cond (is_for which number x) (Some (place_in x)) None)
 
 -- whether the first of the pairs is of this map with this number
 unfoldable pub goes_on : ℕ → ℕ → List ℕ → Bool

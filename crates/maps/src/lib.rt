@@ -2,11 +2,11 @@
 #![tactic(auto)]
 
 ghost use Rattle.std.specs.Prelude.{◌≡◌, ◌+◌, ◌*◌, ◌^◌, ◌≤◌, ◌<◌, length, drop};
-ghost use Rattle.pairs.specs.Pairs.{pair, pair_at, pairs_of, Sorted, count_below};
+ghost use Rattle.pairs.specs.Pairs.{pair, pair_at, pairs_of, count_below};
 ghost use Rattle.maps.specs.Places.{is_for, last_place, goes_on};
 ghost use Rattle.maps.specs.Sorted.{last_at};
 
-use pairs::MaybeU64;
+use pairs::SortedPairs;
 
 // Whether pair i is of a map and has a number.
 fn is_for(w: &[u64], i: usize, which: u64, number: u64) -> bool
@@ -19,48 +19,46 @@ fn is_for(w: &[u64], i: usize, which: u64, number: u64) -> bool
     (first == number) & (second / 0x1_0000_0000 == which)
 }
 
-// The place in the last pair of a map with a number, of the first n pairs, which are sorted: r are below those that come after it.
-fn place_before(w: &[u64], n: usize, r: usize, which: u64, number: u64) -> MaybeU64
-    requires { (2 * n ≤ length w.now) × Sorted (pairs_of w.now n) × (which < 4) × (r ≡ count_below (pair number ((which + 1) * 2 ^ 32)) (pairs_of w.now n)) }
-    ensures { result ≡ last_place which number (pairs_of w.now n) }
+// The place in the last pair of a map with a number: r pairs are below those that come after it.
+fn place_before(pairs: SortedPairs<'_>, r: usize, which: u64, number: u64) -> Option<u64>
+    requires { (which < 4) × (r ≡ count_below (pair number ((which + 1) * 2 ^ 32)) (pairs_of pairs.words.now pairs.count)) }
+    ensures { result ≡ last_place which number (pairs_of pairs.entry.words.now pairs.entry.count) }
 {
     if r == 0 {
-        return MaybeU64::Absent;
+        return None;
     }
-    let i = r - 1;
-    if is_for(w, i, which, number) {
-        let p = 2 * i;
-        MaybeU64::Is(w[p + 1] % 0x1_0000_0000)
+    if is_for(pairs.words, r - 1, which, number) {
+        Some(pairs.second(r - 1) % 0x1_0000_0000)
     } else {
-        MaybeU64::Absent
+        None
     }
 }
 
-// The place in the last pair of a map with a number, of the first n pairs, which are sorted.
-pub fn find_place(w: &[u64], n: usize, which: u64, number: u64) -> MaybeU64
-    requires { (2 * n ≤ length w.now) × Sorted (pairs_of w.now n) × (which < 4) }
-    ensures { result ≡ last_place which number (pairs_of w.now n) }
+// The place in the last pair of a map with a number.
+pub fn find_place(pairs: SortedPairs<'_>, which: u64, number: u64) -> Option<u64>
+    requires { which < 4 }
+    ensures { result ≡ last_place which number (pairs_of pairs.entry.words.now pairs.entry.count) }
 {
-    let r = pairs::lower_bound(w, n, number, (which + 1) * 0x1_0000_0000);
-    place_before(w, n, r, which, number)
+    let r = pairs.lower_bound(number, (which + 1) * 0x1_0000_0000);
+    place_before(pairs, r, which, number)
 }
 
 // The same, looked for from pair `from` on, where the pairs of the number start no earlier.
-pub fn find_place_from(w: &[u64], n: usize, from: usize, which: u64, number: u64) -> MaybeU64
-    requires { (2 * n ≤ length w.now) × Sorted (pairs_of w.now n) × (which < 4) × (from ≤ n) }
-    ensures { result ≡ last_place which number (pairs_of w.now n) }
+pub fn find_place_from(pairs: SortedPairs<'_>, from: usize, which: u64, number: u64) -> Option<u64>
+    requires { (which < 4) × (from ≤ pairs.count) }
+    ensures { result ≡ last_place which number (pairs_of pairs.entry.words.now pairs.entry.count) }
 {
-    let r = pairs::lower_bound_from(w, n, from, number, (which + 1) * 0x1_0000_0000);
-    place_before(w, n, r, which, number)
+    let r = pairs.lower_bound_from(from, number, (which + 1) * 0x1_0000_0000);
+    place_before(pairs, r, which, number)
 }
 
 // The same, looked for from pair `near` by steps that double.
-pub fn find_place_near(w: &[u64], n: usize, near: usize, which: u64, number: u64) -> MaybeU64
-    requires { (2 * n ≤ length w.now) × Sorted (pairs_of w.now n) × (which < 4) × (near ≤ n) }
-    ensures { result ≡ last_place which number (pairs_of w.now n) }
+pub fn find_place_near(pairs: SortedPairs<'_>, near: usize, which: u64, number: u64) -> Option<u64>
+    requires { (which < 4) × (near ≤ pairs.count) }
+    ensures { result ≡ last_place which number (pairs_of pairs.entry.words.now pairs.entry.count) }
 {
-    let r = pairs::lower_bound_near(w, n, near, number, (which + 1) * 0x1_0000_0000);
-    place_before(w, n, r, which, number)
+    let r = pairs.lower_bound_near(near, number, (which + 1) * 0x1_0000_0000);
+    place_before(pairs, r, which, number)
 }
 
 // Whether there is a pair i among the first n, of a map and with a number.

@@ -1,14 +1,14 @@
 -- What stands above an id of small tables.
+use Rattle.std.specs.Prelude.{None, Some}
 use mathlib.Core.Path.{◌≡◌, refl}
 use mathlib.Core.List.{[], ◌∷◌}
-use mathlib.Core.Option.{none, some}
 use Rattle.pairs.specs.Pairs.{has}
 use Rattle.book.specs.Maps.{lookup}
 use Rattle.parents.specs.Roots.{one_more, root_via, root_within, root_of, followed_via, followed, above}
 use Rattle.parents.specs.Chains.{chain_via, chain}
 
 -- 9 is absent and still included
-absent_above : (root_of ((5, 7) ∷ (7, 9) ∷ []) 5 ≡ none) × (above ((5, 7) ∷ (7, 9) ∷ []) 5 ≡ 7 ∷ 9 ∷ [])
+absent_above : (root_of ((5, 7) ∷ (7, 9) ∷ []) 5 ≡ None) × (above ((5, 7) ∷ (7, 9) ∷ []) 5 ≡ 7 ∷ 9 ∷ [])
 unfolding one_more root_via root_within root_of followed_via followed above lookup has
 absent_above = (refl, refl)
 
@@ -23,6 +23,6 @@ unfolding chain_via chain lookup
 repeat_chain = refl
 
 -- a parent of 0 is no link, also where an entry has the id 0
-zero_above : (root_of ((0, 5) ∷ (5, 0) ∷ (7, 5) ∷ []) 7 ≡ some (5, 1)) × (above ((0, 5) ∷ (5, 0) ∷ (7, 5) ∷ []) 7 ≡ 5 ∷ [])
+zero_above : (root_of ((0, 5) ∷ (5, 0) ∷ (7, 5) ∷ []) 7 ≡ Some (5, 1)) × (above ((0, 5) ∷ (5, 0) ∷ (7, 5) ∷ []) 7 ≡ 5 ∷ [])
 unfolding one_more root_via root_within root_of followed_via followed above lookup has
 zero_above = (refl, refl)

@@ -1,17 +1,14 @@
 -- What a source says of the parents.
+use Rattle.std.specs.Prelude.{Option}
 use Prim.Native.Nat.{ℕ}
 use mathlib.Core.Path.{◌≡◌, sym, ap, subst, ◌∙◌}
 use mathlib.Core.List.{List}
-use mathlib.Core.Option.{Option}
-use Rattle.pairs.specs.declared.MaybeU64.{MaybeU64}
 use Rattle.pairs.specs.Pairs.{pairs_of, Sorted}
 use Rattle.pairs.proofs.Order.{sorted_by}
-use Rattle.book.specs.declared.MaybeU32.{MaybeU32}
 use Rattle.book.specs.Maps.{lookup}
 use Rattle.book.specs.Book.{words_from, book_of}
 use Rattle.book.specs.KeyMaps.{parents_of}
 use Rattle.book.specs.Words.{holds, parent_word, id_of}
-use Rattle.book.specs.Walk.{maybe_u32}
 use Rattle.maps.specs.LastKeys.{last_key, word_at}
 use Rattle.drawn.specs.Classes.{latest, SnapshotAt}
 use Rattle.drawn.proofs.Drawn.{drawn_latest, latest_snapshot, drawn_last, last_snapshot}
@@ -44,25 +41,25 @@ unfolding reach_of
 pairs_reach n e = ap reach_of e
 
 -- ---- what is found
-module _ {s : List ℕ} (id : ℕ) {r : MaybeU32} where
-  pub table_found : {start count : ℕ} → ByTable s start count → r ≡ maybe_u32 (lookup id (words_from s count start)) → r ≡ maybe_u32 (lookup id (parents_of (book_of s)))
-  table_found b e = e ∙ ap (λ (t : List (ℕ × ℕ)). maybe_u32 (lookup id t)) (sym b.table)
+module _ {s : List ℕ} (id : ℕ) {r : Option ℕ} where
+  pub table_found : {start count : ℕ} → ByTable s start count → r ≡ (lookup id (words_from s count start)) → r ≡ (lookup id (parents_of (book_of s)))
+  table_found b e = e ∙ ap (λ (t : List (ℕ × ℕ)). (lookup id t)) (sym b.table)
 
-  pub pairs_found : {w : List ℕ} {n : ℕ} {m : MaybeU64} → ByPairs s w n → m ≡ latest 1 id (pairs_of w n) → r ≡ maybe_u32 (word_at parent_word s m) → r ≡ maybe_u32 (lookup id (parents_of (book_of s)))
+  pub pairs_found : {w : List ℕ} {n : ℕ} {m : Option ℕ} → ByPairs s w n → m ≡ latest 1 id (pairs_of w n) → r ≡ (word_at parent_word s m) → r ≡ (lookup id (parents_of (book_of s)))
   pairs_found b f e =
-      e ∙ ap (λ (m : MaybeU64). maybe_u32 (word_at parent_word s m)) f
-      ∙ ap (λ (o : Option ℕ). maybe_u32 o) (sym (ap (λ (t : List (ℕ × ℕ)). lookup id t) b.drawn ∙ drawn_latest b.all id))
+      e ∙ ap (λ (m : Option ℕ). (word_at parent_word s m)) f
+      ∙ ap (λ (o : Option ℕ). o) (sym (ap (λ (t : List (ℕ × ℕ)). lookup id t) b.drawn ∙ drawn_latest b.all id))
 
-  pub keys_found : {start count : ℕ} {m : MaybeU64} → ByKeys s start count → m ≡ last_key (holds 9 22 8) id_of s id count start → r ≡ maybe_u32 (word_at parent_word s m) → r ≡ maybe_u32 (lookup id (parents_of (book_of s)))
+  pub keys_found : {start count : ℕ} {m : Option ℕ} → ByKeys s start count → m ≡ last_key (holds 9 22 8) id_of s id count start → r ≡ (word_at parent_word s m) → r ≡ (lookup id (parents_of (book_of s)))
   keys_found {start} {count} b f e =
-      e ∙ ap (λ (m : MaybeU64). maybe_u32 (word_at parent_word s m)) f
-      ∙ ap (λ (o : Option ℕ). maybe_u32 o) (sym (ap (λ (t : List (ℕ × ℕ)). lookup id t) b.drawn ∙ drawn_last s count start id b.small b.fit))
+      e ∙ ap (λ (m : Option ℕ). (word_at parent_word s m)) f
+      ∙ ap (λ (o : Option ℕ). o) (sym (ap (λ (t : List (ℕ × ℕ)). lookup id t) b.drawn ∙ drawn_last s count start id b.small b.fit))
 
 pub pairs_sorted : {s w : List ℕ} {n : ℕ} → ByPairs s w n → Sorted (pairs_of w n)
 pairs_sorted b = sorted_by _ _ b.all.all
 
-pub pairs_snapshot : {s w : List ℕ} {n : ℕ} → ByPairs s w n → (id : ℕ) {m : MaybeU64} → m ≡ latest 1 id (pairs_of w n) → SnapshotAt s m
+pub pairs_snapshot : {s w : List ℕ} {n : ℕ} → ByPairs s w n → (id : ℕ) {m : Option ℕ} → m ≡ latest 1 id (pairs_of w n) → SnapshotAt s m
 pairs_snapshot {s} b id e = subst (SnapshotAt s) (sym e) (latest_snapshot b.all id)
 
-pub keys_snapshot : {s : List ℕ} {start count : ℕ} → ByKeys s start count → (id : ℕ) {m : MaybeU64} → m ≡ last_key (holds 9 22 8) id_of s id count start → SnapshotAt s m
+pub keys_snapshot : {s : List ℕ} {start count : ℕ} → ByKeys s start count → (id : ℕ) {m : Option ℕ} → m ≡ last_key (holds 9 22 8) id_of s id count start → SnapshotAt s m
 keys_snapshot {s} {start} {count} b id e = subst (SnapshotAt s) (sym e) (last_snapshot s count start id b.small b.fit)

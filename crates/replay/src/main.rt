@@ -5,7 +5,8 @@
 // lend, is answered by `bad line`. A line of more than 65,535 bytes is read as several.
 #![tactic(auto)]
 
-use dockwrench::{Ancestor, Availability, Checked};
+use book::refusal::{Reason, Refusal};
+use dockwrench::{Availability, Checked, Root};
 use lines::STDOUT_FILENO;
 
 // Writes two numbers.
@@ -28,38 +29,38 @@ fn write_bar() {
 }
 
 // Writes the main call's answer: number, place and count. Returns the count.
-fn write_checked(answer: Checked) -> usize {
+fn write_checked(answer: Result<Checked, Refusal>) -> usize {
     match answer {
-        Checked::Found(count) => {
+        Ok(Checked::Found(count)) => {
             write_three(0, 0, count);
             count
         }
-        Checked::NoRoom(count) => {
-            write_three(10, 0, count);
+        Ok(Checked::NoRoom(count)) => {
+            write_three(Reason::FindingsExceed as usize, 0, count);
             count
         }
-        Checked::Refused(number, place) => {
-            write_three(number, place, 0);
+        Err(refusal) => {
+            write_three(refusal.number, refusal.place, 0);
             0
         }
     }
 }
 
 // Writes the ancestor question's answer: number, root and links, or number, place and 0.
-fn write_ancestor(answer: Ancestor) {
+fn write_ancestor(answer: Result<Option<Root>, Refusal>) {
     match answer {
-        Ancestor::Root { root, links } => write_three(0, root as usize, links as usize),
-        Ancestor::NoRoot => write_three(11, 0, 0),
-        Ancestor::Refused(number, place) => write_three(number, place, 0),
+        Ok(Some(found)) => write_three(0, found.root as usize, found.links as usize),
+        Ok(None) => write_three(Reason::NoRoot as usize, 0, 0),
+        Err(refusal) => write_three(refusal.number, refusal.place, 0),
     }
 }
 
 // Writes the availability question's answer: 0, and 1 for an unavailable id; or number and place.
-fn write_availability(answer: Availability) {
+fn write_availability(answer: Result<Availability, Refusal>) {
     match answer {
-        Availability::Unavailable => write_two(0, 1),
-        Availability::Available => write_two(0, 0),
-        Availability::Refused(number, place) => write_two(number, place),
+        Ok(Availability::Unavailable) => write_two(0, 1),
+        Ok(Availability::Available) => write_two(0, 0),
+        Err(refusal) => write_two(refusal.number, refusal.place),
     }
 }
 
@@ -140,11 +141,12 @@ fn show_next(line: &mut [u8]) -> bool {
     true
 }
 
-// Each line of the input, in a buffer for one. A proved loop has to end: it counts its turns down from a number that no input uses up.
+// Each line of the input, in a buffer for one. A proved loop has to end: it has more turns than any input uses up.
 fn show_lines(line: &mut [u8]) {
-    let mut turns = u64::MAX;
-    while turns > 0 && show_next(line) {
-        turns -= 1;
+    for _ in 0..u64::MAX {
+        if !show_next(line) {
+            return;
+        }
     }
 }
 

@@ -1,9 +1,9 @@
 -- Examples of free space and generations, by computing: a run that starts one below the first bucket, ages of buckets, and
 -- the ends of bucket numbers.
+use Rattle.std.specs.Prelude.{None, Option, Some}
 use Prim.Native.Nat.{ℕ, ◌+◌, ◌-◌, ◌*◌, ◌^◌}
 use mathlib.Core.Path.{◌≡◌, refl}
 use mathlib.Core.List.{List, [], ◌∷◌, ◌++◌, map}
-use mathlib.Core.Option.{Option, none, some}
 use lib.ListN.{replicate}
 use Rattle.findings.specs.Findings.{finding, when, only, each}
 use Rattle.pairs.specs.Pairs.{pair, insert, sort}
@@ -29,9 +29,9 @@ free : map free_space
     (book [] [] [] ∷
     book [] [] (run 4 3 ∷ []) ∷
     book [] [] (run 4 4 ∷ []) ∷
-    book [] ((2, some 3) ∷ []) (run 4 4 ∷ []) ∷
-    book [] ((2, some 3) ∷ (3, some 0) ∷ []) (run 4 3 ∷ []) ∷
-    book [] ((2, some 0) ∷ (3, none) ∷ []) [] ∷
+    book [] ((2, Some 3) ∷ []) (run 4 4 ∷ []) ∷
+    book [] ((2, Some 3) ∷ (3, Some 0) ∷ []) (run 4 3 ∷ []) ∷
+    book [] ((2, Some 0) ∷ (3, None) ∷ []) [] ∷
     book [] [] (run 5 1 ∷ run 2 3 ∷ run 4 3 ∷ []) ∷
     book [] [] (run 4 1 ∷ run 2 1 ∷ []) ∷ [])
     ≡ (finding 50 1 4 ∷ []) ∷

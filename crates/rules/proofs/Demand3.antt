@@ -1,10 +1,10 @@
 -- Demand 3 on the list of all rules: of their findings those of `snapshot_links` alone can be of a forest kind.
+use Rattle.std.specs.Prelude.{None}
 use Prim.Native.Nat.{ℕ}
 use mathlib.Core.Bool.{Bool, true, false, true≢false, not, ◌&&◌, ◌||◌}
 use mathlib.Core.Logic.{◌↔◌}
 use mathlib.Core.List.Memᴰ
 use mathlib.Core.List.{List, [], ◌∷◌, ◌++◌}
-use mathlib.Core.Option.{none}
 use mathlib.Core.Path.{◌≡◌, refl, ap, sym, ◌∙◌}
 use lib.Dec.{eqb}
 use borrow.Author.Tests.{eqb-true}
@@ -72,7 +72,7 @@ pub demand_3 : (b : Book) → ForestBook b → Demand3 b (findings_of b)
 demand_3 b F = forest b F (findings_of b) (links_alone b)
 
 -- "In a forest book a snapshot without a root always gives kind 41 or 42, whatever its other words hold": it gives 41
-pub rootless_found : (b : Book) → ForestBook b → (s : Bkey) → s ∈ snapshots b → root_of (parents_of b) s.offset ≡ none → finding 41 s.offset (tree_word s) ∈ findings_of b
+pub rootless_found : (b : Book) → ForestBook b → (s : Bkey) → s ∈ snapshots b → root_of (parents_of b) s.offset ≡ None → finding 41 s.offset (tree_word s) ∈ findings_of b
 unfolding findings_of
 rootless_found b F s m e =
     Memᴰ.append_right (each (key_findings b) 0 b.keys)

@@ -1,8 +1,8 @@
 -- The rows of document 01 that are marked †.
+use Rattle.std.specs.Prelude.{None, Some}
 use Prim.Native.Nat.{ℕ, zero, suc, ◌+◌, ◌^◌, ◌≤◌, ◌<◌}
 use mathlib.Core.Path.{◌≡◌, refl, sym, ap, ap₂, ◌∙◌}
 use mathlib.Core.List.{List, [], ◌∷◌, ◌++◌, map}
-use mathlib.Core.Option.{none, some}
 use native.Mathlib.Omega.{arith}
 use borrow.Author.Tests.{eq-eqb, ne_eqb}
 use Rattle.bits.specs.Bits.{le_at}
@@ -21,23 +21,23 @@ use Rattle.rules.proofs.DrawnRows.{drawn_line, drawn_one}
 
 -- CHAINS OF LINKS
 
-line_at : (last n j i : ℕ) → j < n → i ≡ last + j → lookup (suc i) (line last n) ≡ some i
+line_at : (last n j i : ℕ) → j < n → i ≡ last + j → lookup (suc i) (line last n) ≡ Some i
 unfolding line lookup
 line_at last zero j i l e = absurd (omega arith)
-line_at last (suc n) zero i l e = rw (eq-eqb (suc i) (suc last) (omega arith)) (ap some (omega arith))
+line_at last (suc n) zero i l e = rw (eq-eqb (suc i) (suc last) (omega arith)) (ap Some (omega arith))
 line_at last (suc n) (suc j) i l e = rw (ne_eqb (suc i) (suc last) (omega arith)) (line_at (suc last) n j i (omega arith) (omega arith))
 
 -- from id k + 1 of a line k links lead to the root, and fewer don't
-line_link : (n k : ℕ) → suc k < n → link (line 0 n) (suc (suc k)) ≡ some (suc k)
+line_link : (n k : ℕ) → suc k < n → link (line 0 n) (suc (suc k)) ≡ Some (suc k)
 line_link n k l = link_to (line 0 n) (suc (suc k)) (line_at 0 n (suc k) (suc k) l (omega arith)) (omega arith)
 
-line_root_lem : (n k most : ℕ) → k < n → k ≤ most → root_within (line 0 n) most (suc k) ≡ some (1, k)
+line_root_lem : (n k most : ℕ) → k < n → k ≤ most → root_within (line 0 n) most (suc k) ≡ Some (1, k)
 unfolding one_more
 line_root_lem n zero most l m = root_here (line 0 n) 1 most (line_at 0 n 0 0 l refl)
 line_root_lem n (suc k) zero l m = absurd (omega arith)
 line_root_lem n (suc k) (suc most) l m = rw (root_more (line 0 n) (suc (suc k)) most (line_link n k l), line_root_lem n k most (omega arith) (omega arith))
 
-line_none : (n k most : ℕ) → k < n → most < k → root_within (line 0 n) most (suc k) ≡ none
+line_none : (n k most : ℕ) → k < n → most < k → root_within (line 0 n) most (suc k) ≡ None
 unfolding one_more
 line_none n zero most l m = absurd (omega arith)
 line_none n (suc k) zero l m = root_full (line 0 n) (suc (suc k)) (line_link n k l)

@@ -1,11 +1,11 @@
 -- Each rule gives only the kinds that the table `kinds_of` says: by one law for each way in which lists of findings are made.
+use Rattle.std.specs.Prelude.{None, Option, Some}
 use Prim.Native.Nat.{ℕ, suc}
 use mathlib.Core.Bool.{Bool, true, false, cond}
 use mathlib.Core.Path.{◌≡◌, sym, subst}
 use mathlib.Core.Logic.{⊎_elim}
 use mathlib.Core.List.Memᴰ
 use mathlib.Core.List.{List, [], ◌∷◌, ◌++◌, append-nil}
-use mathlib.Core.Option.{Option, none, some}
 use lib.Dec.{ltb}
 use Rattle.findings.specs.Findings.{Finding, finding, when, only, each}
 use Rattle.pairs.specs.Pairs.{has}
@@ -61,13 +61,13 @@ ruleset within = (within_nil, within_one, within_when, within_only, within_appen
 -- the parts that go by cases
 entry_kinds : (k : Bkey) (parent : Option ℕ) → Within (37 ∷ 38 ∷ []) (wrong_entry k parent)
 unfolding wrong_entry has
-entry_kinds k none = search within
-entry_kinds k (some p) = search within
+entry_kinds k None = search within
+entry_kinds k (Some p) = search within
 
 master_kinds : (tree_of : List (ℕ × ℕ)) (id subvolume : ℕ) (snap : Option ℕ) → Within link_kinds (master_findings tree_of id subvolume snap)
 unfolding master_findings has
-master_kinds tree_of id subvolume none = search within
-master_kinds tree_of id subvolume (some snap) = search within
+master_kinds tree_of id subvolume None = search within
+master_kinds tree_of id subvolume (Some snap) = search within
 
 gap_kinds : (at : ℕ) (xs : List (ℕ × Option ℕ)) (to : ℕ) → Within (47 ∷ 48 ∷ 49 ∷ 50 ∷ []) (gap_findings at xs to)
 unfolding gap_findings has

@@ -1,6 +1,5 @@
 -- The rows of document 01 that are marked †, as one table, those on parents also for drawn ones; the theorem is in proofs/Rows.antt.
-use Rattle.std.specs.Prelude.{ℕ, zero, suc, ◌+◌, ◌*◌, ◌/◌, ◌%◌, ◌^◌, Bool, true, false, List, [], ◌∷◌, ◌++◌, map, replicate}
-use Rattle.std.proofs.Math.Option.{Option, none, some}
+use Rattle.std.specs.Prelude.{ℕ, zero, suc, ◌+◌, ◌*◌, ◌/◌, ◌%◌, ◌^◌, Bool, true, false, List, [], ◌∷◌, ◌++◌, map, replicate, None, Option, Some}
 use Rattle.findings.specs.Findings.{Finding}
 use Rattle.book.specs.Book.{Bkey, Book}
 use Rattle.book.specs.KeyMaps.{parents_of}
@@ -25,8 +24,8 @@ kinds fs = map (λ (f : Finding). f.kind) fs
 
 -- a root and the links to it, or nothing
 unfoldable pub numbers : Option (ℕ × ℕ) → List ℕ
-numbers none = []
-numbers (some r) = r.0 ∷ r.1 ∷ []
+numbers None = []
+numbers (Some r) = r.0 ∷ r.1 ∷ []
 
 abbrev zeros : ℕ → List ℕ
 zeros n = replicate n 0

@@ -15,153 +15,139 @@
 #![tactic(auto)]
 
 ghost use Rattle.std.specs.Prelude.{◌≡◌, ◌*◌, ◌≤◌, length};
-ghost use Rattle.book.specs.Walk.{Opened};
 
-use book::{Header, Places, Scanned};
+use book::open::Book;
+use findings::report::Report;
 use lines::STDOUT_FILENO;
 use states::Version;
-use std::num;
 
 // What judges a line, the number of the line, and the version for state words.
-#[derive(Clone, Copy)]
+#[derive(Clone, Copy, Default)]
 struct Section {
     letter: u8,
     line: u64,
     version: u16,
 }
 
+// Writes what a report holds, and empties it.
+fn show_report(report: &mut Report<'_>)
+    ensures { report.new.found ≡ 0 }
+{
+    let found = report.found;
+    lines::show_findings(report.buffer, found);
+    report.found = 0;
+}
+
 // Writes what is found in the key of these bytes.
 fn judge_key(bytes: &[u8], s: Section)
     requires { (28 ≤ length bytes.now) × (length bytes.now ≤ 1048576) }
 {
-    let h = book::key_head(bytes, 0);
+    let head = book::key_head(bytes, 0);
+    let value = &bytes[28..];
     let mut out = io::buffer();
     let mut counts = [0u64; 0];
+    let mut report = Report {
+        buffer: &mut out,
+        counts: &mut counts,
+        found: 0,
+    };
     if s.letter == b'w' {
-        let n = states::check_state_words(
-            Version(s.version),
-            h,
-            &bytes[28..],
-            s.line,
-            &mut out,
-            &mut counts,
-        );
-        lines::show_findings(&out, n);
+        states::check_state_words(Version(s.version), head, value, s.line, &mut report);
+        show_report(&mut report);
         return;
     }
-    let n = fields::check_key_device(h, 0, s.line, &mut out, &mut counts);
-    lines::show_findings(&out, n);
-    let n = types::check_key_type(h, s.line, &mut out, &mut counts);
-    lines::show_findings(&out, n);
-    let n = fields::check_key_fields(h, &bytes[28..], s.line, &mut out, &mut counts);
-    lines::show_findings(&out, n);
+    fields::check_key_device(head, 0, s.line, &mut report);
+    show_report(&mut report);
+    types::check_key_type(head, s.line, &mut report);
+    show_report(&mut report);
+    fields::check_key_fields(head, value, s.line, &mut report);
+    show_report(&mut report);
 }
 
 // Writes an id, if it is unavailable.
-fn ask(bytes: &[u8], h: Header, at: Places, id: u32)
-    requires { Opened bytes.now h at }
-{
-    if subvolumes::is_unavailable(bytes, h, at, id) {
+fn ask(book: Book<'_>, id: u32) {
+    if subvolumes::is_unavailable(book, id) {
         io::write_all(STDOUT_FILENO, b" ");
         io::print_decimal(STDOUT_FILENO, id as u64);
     }
 }
 
 // Writes the ids that are unavailable.
-fn ask_all(bytes: &[u8], h: Header, at: Places)
-    requires { Opened bytes.now h at }
-{
+fn ask_all(book: Book<'_>) {
     io::write_all(STDOUT_FILENO, b"unavailable");
-    ask(bytes, h, at, 0);
-    ask(bytes, h, at, 1);
-    ask(bytes, h, at, 2);
-    ask(bytes, h, at, 0xffff_ffff);
+    for id in [0, 1, 2, 0xffff_ffff] {
+        ask(book, id);
+    }
     io::write_all(STDOUT_FILENO, b"\n");
 }
 
-// Subvolumes that are unlinked or deleted, claims, and states of snapshots.
-fn judge_gone(bytes: &[u8], h: Header, at: Places, out: &mut [u8], work: &mut [u64])
-    requires { Opened bytes.now h at × (2 * h.keys ≤ length work.old) }
+// Subvolumes that are unlinked or deleted, claims, and states of snapshots; then the ids that are unavailable.
+fn judge_deletions(book: Book<'_>, work: &mut [u64], report: &mut Report<'_>)
+    requires { (2 * book.header.keys ≤ length work.old) × (report.old.found ≡ 0) }
 {
-    let mut counts = [0u64; 0];
-    let n = subvolumes::subvolume_states(bytes, h, at, out, &mut counts, work);
-    lines::show_findings(out, n);
-    let n = claims::snapshot_claims(bytes, h, at, out, &mut counts, work);
-    lines::show_findings(out, n);
-    let n = deletions::snapshot_states(bytes, h, at, out, &mut counts, work);
-    lines::show_findings(out, n);
-}
-
-// The same, and the ids that are unavailable.
-fn judge_deletions(bytes: &[u8], h: Header, at: Places, out: &mut [u8], work: &mut [u64])
-    requires { Opened bytes.now h at × (2 * h.keys ≤ length work.old) }
-{
-    judge_gone(bytes, h, at, out, work);
-    ask_all(bytes, h, at);
+    subvolumes::subvolume_states(book, work, report);
+    show_report(report);
+    claims::snapshot_claims(book, work, report);
+    show_report(report);
+    deletions::snapshot_states(book, work, report);
+    show_report(report);
+    ask_all(book);
 }
 
 // Flags of snapshots, and children of subvolumes.
-fn judge_snapshots(bytes: &[u8], h: Header, at: Places, out: &mut [u8], work: &mut [u64])
-    requires { Opened bytes.now h at × (2 * h.keys ≤ length work.old) }
+fn judge_snapshots(book: Book<'_>, work: &mut [u64], report: &mut Report<'_>)
+    requires { (2 * book.header.keys ≤ length work.old) × (report.old.found ≡ 0) }
 {
-    let mut counts = [0u64; 0];
-    let n = snapshots::snapshot_subvol_flags(bytes, h, at, out, &mut counts);
-    lines::show_findings(out, n);
-    let n = children::subvolume_children(bytes, h, at, out, &mut counts, work);
-    lines::show_findings(out, n);
+    snapshots::snapshot_subvol_flags(book, report);
+    show_report(report);
+    children::subvolume_children(book, work, report);
+    show_report(report);
 }
 
 // Links between snapshots and trees.
-fn judge_links(bytes: &[u8], h: Header, at: Places, out: &mut [u8], work: &mut [u64])
-    requires { Opened bytes.now h at × (2 * h.keys ≤ length work.old) }
+fn judge_links(book: Book<'_>, work: &mut [u64], report: &mut Report<'_>)
+    requires { (2 * book.header.keys ≤ length work.old) × (report.old.found ≡ 0) }
 {
-    let mut counts = [0u64; 0];
-    let n = links::snapshot_links(bytes, h, at, out, &mut counts, work);
-    lines::show_findings(out, n);
+    links::snapshot_links(book, work, report);
+    show_report(report);
 }
 
 // Generations, and free space.
-fn judge_buckets(bytes: &[u8], h: Header, at: Places, out: &mut [u8], work: &mut [u64])
-    requires { Opened bytes.now h at × (2 * h.keys ≤ length work.old) }
+fn judge_buckets(book: Book<'_>, work: &mut [u64], report: &mut Report<'_>)
+    requires { (2 * book.header.keys ≤ length work.old) × (report.old.found ≡ 0) }
 {
-    let mut counts = [0u64; 0];
-    let n = gens::bucket_gens_against_alloc(bytes, h, at, out, &mut counts, work);
-    lines::show_findings(out, n);
-    let n = buckets::free_space(bytes, h, at, out, &mut counts, work);
-    lines::show_findings(out, n);
-}
-
-// Work words, all zero.
-fn words() -> [u64; 256]
-    ensures { 256 ≡ length result }
-{
-    [0; 256]
+    gens::bucket_gens_against_alloc(book, work, report);
+    show_report(report);
+    buckets::free_space(book, work, report);
+    show_report(report);
 }
 
 // Judges an accepted book by rules. Each is lent the work words as the one before leaves them.
-fn judge_rules(bytes: &[u8], h: Header, at: Places, letter: u8)
-    requires { Opened bytes.now h at }
-{
-    if 128 < h.keys {
+fn judge_rules(book: Book<'_>, letter: u8) {
+    if 128 < book.header.keys {
         io::write_all(STDOUT_FILENO, b"more than 128 keys\n");
         return;
     }
     let mut out = io::buffer();
-    let mut work = words();
+    let mut counts = [0u64; 0];
+    let mut work = [0u64; 256];
+    let mut report = Report {
+        buffer: &mut out,
+        counts: &mut counts,
+        found: 0,
+    };
     match letter {
-        b'd' => judge_deletions(bytes, h, at, &mut out, &mut work),
-        b's' => judge_snapshots(bytes, h, at, &mut out, &mut work),
-        b'l' => judge_links(bytes, h, at, &mut out, &mut work),
-        _ => judge_buckets(bytes, h, at, &mut out, &mut work),
+        b'd' => judge_deletions(book, &mut work, &mut report),
+        b's' => judge_snapshots(book, &mut work, &mut report),
+        b'l' => judge_links(book, &mut work, &mut report),
+        _ => judge_buckets(book, &mut work, &mut report),
     }
 }
 
 // Judges an accepted book, or says that it is one.
-fn judge_accepted(bytes: &[u8], h: Header, at: Places, letter: u8)
-    requires { Opened bytes.now h at }
-{
+fn judge_accepted(book: Book<'_>, letter: u8) {
     match letter {
-        b'd' | b's' | b'l' | b'b' => judge_rules(bytes, h, at, letter),
+        b'd' | b's' | b'l' | b'b' => judge_rules(book, letter),
         _ => {
             io::write_all(STDOUT_FILENO, b"accepted\n");
         }
@@ -170,11 +156,10 @@ fn judge_accepted(bytes: &[u8], h: Header, at: Places, letter: u8)
 
 // Judges the book that these bytes are, if it is accepted.
 fn judge_book(bytes: &[u8], letter: u8) {
-    let scanned = scan::scan(bytes);
-    match scanned {
-        Scanned::Accepted { header, places } => judge_accepted(bytes, header, places, letter),
-        Scanned::Refused(number, place) => {
-            report::refused(number, place);
+    match scan::scan(bytes) {
+        Ok(book) => judge_accepted(book, letter),
+        Err(refusal) => {
+            let _ = report::refused(refusal.number, refusal.place);
         }
     }
 }
@@ -196,21 +181,18 @@ fn judge(text: &[u8], s: Section) {
 
 // The number that the decimal digits after `version ` make, its low 16 bits.
 fn number(text: &[u8]) -> u16 {
-    let mut x: u32 = 0;
-    let mut at: usize = 8;
-    while at < text.len() {
-        x = (x * 10 + lines::digit(text[at]) as u32) % 65536;
-        at += 1;
+    let mut x: u16 = 0;
+    for at in 8..text.len() {
+        x = x
+            .wrapping_mul(10)
+            .wrapping_add(lines::digit(text[at]) as u16);
     }
-    x as u16
+    x
 }
 
 // The letter after `= `, and 0 if there is none.
 fn letter(text: &[u8]) -> u8 {
-    if text.len() < 3 {
-        return 0;
-    }
-    text[2]
+    text.get(2).copied().unwrap_or(0)
 }
 
 // Shows a line that is no `=`; returns the version for the lines after it.
@@ -236,7 +218,7 @@ fn step(text: &[u8], s: Section) -> Section {
     }
     Section {
         letter: s.letter,
-        line: num::wrapping_add_u64(s.line, 1),
+        line: s.line.wrapping_add(1),
         version: show(text, s),
     }
 }
@@ -247,21 +229,15 @@ fn show_line(text: &[u8], s: Section) -> Section {
     step(&text[..end], s)
 }
 
-// Each line of the input, in a buffer for one. A proved loop has to end: it counts its turns down from a number that no input uses up.
+// Each line of the input, in a buffer for one. A proved loop has to end: its turns are more than any input uses up.
 fn show_lines(line: &mut [u8]) {
-    let mut s = Section {
-        letter: 0,
-        line: 0,
-        version: 0,
-    };
-    let mut turns = u64::MAX;
-    while 0 < turns {
+    let mut s = Section::default();
+    for _ in 0..u64::MAX {
         let n = lines::read_line(line);
         if n == 0 {
             return;
         }
         s = show_line(&line[..n], s);
-        turns -= 1;
     }
 }
 

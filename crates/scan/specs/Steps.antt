@@ -1,18 +1,13 @@
 -- What only contracts of private functions cite: the steps of `scan`.
-use Rattle.std.specs.Prelude.{ℕ, zero, suc, ◌+◌, ◌-◌, ◌^◌, ◌≤◌, ◌<◌, ◌≡◌, Bool, true, false, ◌&&◌, List, ltb}
+use Rattle.std.specs.Prelude.{ℕ, zero, suc, ◌+◌, ◌-◌, ◌^◌, ◌≤◌, ◌<◌, ◌≡◌, Bool, true, ◌&&◌, List, ltb, Result, Ok, Err}
 use Rattle.book.specs.declared.Header.{Header}
 use Rattle.scan.specs.declared.HeaderStart.{HeaderStart}
 use Rattle.scan.specs.declared.Counts.{Counts}
 use Rattle.book.specs.declared.Places.{Places}
 use Rattle.book.specs.declared.Table.{Table}
-use Rattle.book.specs.declared.KeyFront.{KeyFront}
-use Rattle.scan.specs.declared.EntryRead.{EntryRead}
-use Rattle.scan.specs.declared.EntryRead.TheVariants as entry
-use Rattle.scan.specs.declared.KeyRead.{KeyRead}
-use Rattle.scan.specs.declared.KeyRead.TheVariants as read
-use Rattle.book.specs.declared.Verdict.{Verdict}
-use Rattle.book.specs.declared.Verdict.TheVariants as verdict
+use Rattle.book.specs.declared.refusal.Refusal.{Refusal}
 use Rattle.book.specs.Book.{words_table, entry_at}
+use Rattle.book.specs.Refusals.{Verdict}
 
 -- the fields of a header that stand in its first 8 bytes, and those in its last 8
 abbrev pub start_of : Header → HeaderStart
@@ -37,20 +32,10 @@ FirstBefore t s start p first = start + t.size ≤ p → first ≡ (entry_at t s
 abbrev pub Near : Places → Type 0
 Near at = (at.parents < 2 ^ 31) × (at.subvolumes < 2 ^ 31) × (at.gens < 2 ^ 31) × (at.alloc < 2 ^ 31) × (at.keys < 2 ^ 31)
 
--- what `check_entry` answers, by the verdict on an entry and its first field
-unfoldable pub entry_read_of : Verdict → ℕ → EntryRead
-entry_read_of verdict.Passed first = entry.First first
-entry_read_of (verdict.Refused number place) first = entry.Refused number place
-
--- what `read_key` answers, by the verdict on a key and its front
-unfoldable pub key_read_of : Verdict → KeyFront → KeyRead
-key_read_of verdict.Passed f = read.Key f
-key_read_of (verdict.Refused number place) f = read.Refused number place
-
--- whether a check is passed
-unfoldable pub passes : Verdict → Bool
-passes verdict.Passed = true
-passes (verdict.Refused number place) = false
+-- what is read at a place, or the refusal of what stands there
+unfoldable pub given : {A : Type 0} → Verdict → A → Result A Refusal
+given (Ok passed) x = Ok x
+given (Err r) x = Err r
 
 -- whether the first words of the n entries of two 32-bit words after the one at byte p rise, from that one's on
 unfoldable pub words_rise : List ℕ → ℕ → ℕ → Bool

@@ -2,7 +2,7 @@
 // and the keys.
 #![tactic(auto)]
 
-ghost use Rattle.std.specs.Prelude.{◌≡◌, true, ◌+◌, ◌*◌, ◌^◌, ◌<◌, ◌≤◌, length};
+ghost use Rattle.std.specs.Prelude.{◌≡◌, true, ◌+◌, ◌*◌, ◌^◌, ◌<◌, ◌≤◌, length, is_ok, IfOk, IfErr};
 ghost use Rattle.book.specs.Book.{header_of, words_table, entry_at, places_of, key_head};
 ghost use Rattle.book.specs.Refusals.{
   bad_rest,
@@ -13,14 +13,17 @@ ghost use Rattle.book.specs.Refusals.{
   parts_verdict,
   header_verdict,
   ◌then◌,
+  Outcome,
   parse,
-  scan_of,
 };
 ghost use Rattle.book.specs.Walk.{Readable, front_of};
-ghost use Rattle.scan.specs.Steps.{FirstBefore, Near, entry_read_of, key_read_of, passes, words_rise, start_of, counts_of};
+ghost use Rattle.scan.specs.Steps.{FirstBefore, Near, given, words_rise, start_of, counts_of};
 
-use bits::Cursor;
-use book::{Header, KeyFront, Places, Scanned, Table, Verdict};
+use bits::{Cursor, Taken};
+use book::names::btree_id;
+use book::open::Book;
+use book::refusal::{Reason, Refusal};
+use book::{Header, KeyFront, Places, Table};
 
 // The fields of a header in its first 8 bytes.
 #[derive(Clone, Copy)]
@@ -43,57 +46,45 @@ struct Counts {
     alloc: u16,
 }
 
-// What stands where an entry of a table is due.
-#[derive(Clone, Copy)]
-pub enum EntryRead {
-    // the entry's first field
-    First(u64),
-    // the refusal's number and its place
-    Refused(usize, usize),
-}
-
-// What stands where a key is due.
-#[derive(Clone, Copy)]
-pub enum KeyRead {
-    Key(KeyFront),
-    // the refusal's number and its place
-    Refused(usize, usize),
-}
-
 // The fields of the first 8 bytes of a book.
 fn read_start(book: &[u8]) -> HeaderStart
     requires { 8 ≤ length book.now }
     ensures { result ≡ start_of (header_of book.now) }
 {
-    let start = Cursor { at: 0 };
-    let t = start.take(book, 4);
-    let layout = t.value as u8;
-    let c = t.next;
-    let t = c.take(book, 1);
-    let trees = t.value == 1;
-    let c = t.next;
-    let t = c.take(book, 1);
-    let drawn = t.value == 1;
-    let c = t.next;
-    let t = c.take(book, 10);
-    let spare = t.value as u16;
-    let c = t.next;
-    let t = c.take(book, 16);
-    let version = t.value as u16;
-    let c = t.next;
-    let t = c.take(book, 16);
-    let first_bucket = t.value as u16;
-    let c = t.next;
-    let t = c.take(book, 16);
-    let keys = t.value as u16;
+    let c = Cursor { at: 0 };
+    let Taken {
+        value: layout,
+        next: c,
+    } = c.take(book, 4);
+    let Taken {
+        value: trees,
+        next: c,
+    } = c.take(book, 1);
+    let Taken {
+        value: drawn,
+        next: c,
+    } = c.take(book, 1);
+    let Taken {
+        value: spare,
+        next: c,
+    } = c.take(book, 10);
+    let Taken {
+        value: version,
+        next: c,
+    } = c.take(book, 16);
+    let Taken {
+        value: first_bucket,
+        next: c,
+    } = c.take(book, 16);
+    let keys = c.take(book, 16).value;
     HeaderStart {
-        layout,
-        trees,
-        drawn,
-        spare,
-        version,
-        first_bucket,
-        keys,
+        layout: layout as u8,
+        trees: trees == 1,
+        drawn: drawn == 1,
+        spare: spare as u16,
+        version: version as u16,
+        first_bucket: first_bucket as u16,
+        keys: keys as u16,
     }
 }
 
@@ -102,23 +93,25 @@ fn read_counts(book: &[u8]) -> Counts
     requires { 32 ≤ length book.now }
     ensures { result ≡ counts_of (header_of book.now) }
 {
-    let start = Cursor { at: 192 };
-    let t = start.take(book, 16);
-    let parents = t.value as u16;
-    let c = t.next;
-    let t = c.take(book, 16);
-    let subvolumes = t.value as u16;
-    let c = t.next;
-    let t = c.take(book, 16);
-    let gens = t.value as u16;
-    let c = t.next;
-    let t = c.take(book, 16);
-    let alloc = t.value as u16;
+    let c = Cursor { at: 192 };
+    let Taken {
+        value: parents,
+        next: c,
+    } = c.take(book, 16);
+    let Taken {
+        value: subvolumes,
+        next: c,
+    } = c.take(book, 16);
+    let Taken {
+        value: gens,
+        next: c,
+    } = c.take(book, 16);
+    let alloc = c.take(book, 16).value;
     Counts {
-        parents,
-        subvolumes,
-        gens,
-        alloc,
+        parents: parents as u16,
+        subvolumes: subvolumes as u16,
+        gens: gens as u16,
+        alloc: alloc as u16,
     }
 }
 
@@ -128,10 +121,8 @@ fn read_header(book: &[u8]) -> Header
     ensures { result ≡ header_of book.now }
 {
     let start = read_start(book);
-    let c = Cursor { at: 64 };
-    let device = c.take(book, 64);
-    let c = device.next;
-    let buckets = c.take(book, 64);
+    let device = bits::be64(book, 8);
+    let buckets = bits::be64(book, 16);
     let counts = read_counts(book);
     Header {
         layout: start.layout,
@@ -141,8 +132,8 @@ fn read_header(book: &[u8]) -> Header
         version: start.version,
         first_bucket: start.first_bucket,
         keys: start.keys,
-        device: device.value,
-        buckets: buckets.value,
+        device,
+        buckets,
         parents: counts.parents,
         subvolumes: counts.subvolumes,
         gens: counts.gens,
@@ -199,60 +190,56 @@ fn bad_entry(book: &[u8], t: Table, at: usize) -> bool
     bad_rest(rest.value)
 }
 
-// What stands at byte `at`, where an entry is due, in a table that starts at byte `start`; the entry before, if there is one, has the first
-// field `previous`.
-fn check_entry(book: &[u8], t: Table, start: usize, at: usize, previous: u64) -> EntryRead
+// The first field of the entry that is due at byte `at`, in a table that starts at byte `start`; the entry before, if there is one, has
+// the first field `previous`.
+fn check_entry(
+    book: &[u8],
+    t: Table,
+    start: usize,
+    at: usize,
+    previous: u64,
+) -> Result<u64, Refusal>
     requires readable { Readable t × (length book.now ≤ 1048576) × (start < 2 ^ 32) × (at < 2 ^ 32) }
     requires first_before { FirstBefore t book.now start at previous }
-    ensures { result ≡ entry_read_of (entry_verdict t book.now start at) (entry_at t book.now at).first }
+    ensures { result ≡ given (entry_verdict t book.now start at) (entry_at t book.now at).first }
 {
     if book.len() < at + t.size {
-        return EntryRead::Refused(4, at);
+        return Err(Reason::PastEnd.at(at));
     }
     if bad_entry(book, t, at) {
-        return EntryRead::Refused(5, at);
+        return Err(Reason::SpareBit.at(at));
     }
     let first = read_first(book, t, at);
     if at < start + t.size {
-        return EntryRead::First(first);
+        return Ok(first);
     }
     if first <= previous {
-        return EntryRead::Refused(6, at);
+        return Err(Reason::NotRising.at(at));
     }
-    EntryRead::First(first)
+    Ok(first)
 }
 
 // The first refusal of the `count` entries of the table that starts at byte `start`.
-fn entries_verdict(book: &[u8], t: Table, start: usize, count: u16) -> Verdict
+fn entries_verdict(book: &[u8], t: Table, start: usize, count: u16) -> Result<(), Refusal>
     requires { Readable t × (length book.now ≤ 1048576) × (start < 2 ^ 31) }
     ensures { result ≡ table_verdict t book.now start count start }
 {
-    let mut left = count;
     let mut at = start;
     let mut previous = 0;
-    while 0 < left {
-        let e = check_entry(book, t, start, at, previous);
-        match e {
-            EntryRead::Refused(number, place) => {
-                return Verdict::Refused(number, place);
-            }
-            EntryRead::First(first) => {
-                previous = first;
-            }
-        }
+    for _ in 0..count {
+        previous = check_entry(book, t, start, at, previous)?;
         at += t.size;
-        left -= 1;
     }
-    Verdict::Passed
+    Ok(())
 }
 
 // The same, at once where the table has no entries: the compiler puts this test in place, and an empty table costs no call.
-fn table_verdict(book: &[u8], t: Table, start: usize, count: u16) -> Verdict
+fn table_verdict(book: &[u8], t: Table, start: usize, count: u16) -> Result<(), Refusal>
     requires { Readable t × (length book.now ≤ 1048576) × (start < 2 ^ 31) }
     ensures { result ≡ table_verdict t book.now start count start }
 {
     if count == 0 {
-        return Verdict::Passed;
+        return Ok(());
     }
     entries_verdict(book, t, start, count)
 }
@@ -283,40 +270,36 @@ fn each_rise(book: &[u8], start: usize, count: usize) -> bool
     ensures { result ≡ words_rise book.now count start }
 {
     let mut at = start;
-    let mut left = count;
-    while 0 < left {
+    for _ in 0..count {
         if bits::be32(book, at + 8) <= bits::be32(book, at) {
             return false;
         }
         at += 8;
-        left -= 1;
     }
     true
 }
 
-// The same, four entries to a turn: the first word of the last is kept for the next turn.
+// The same, four entries to a turn, which is faster: the first word of the last is kept for the next turn.
 fn words_rise(book: &[u8], start: usize, count: usize) -> bool
     requires { start + 8 * count + 8 ≤ length book.now }
     ensures { result ≡ words_rise book.now count start }
 {
     let mut at = start;
-    let mut left = count;
     let mut first = bits::be32(book, at);
-    while 4 <= left {
+    for _ in 0..count / 4 {
         if !four_rise(book, at, first) {
             return false;
         }
         at += 32;
-        left -= 4;
         first = bits::be32(book, at);
     }
-    each_rise(book, at, left)
+    each_rise(book, at, count % 4)
 }
 
 // Whether the `count` entries of the table of two words that starts at byte `start` pass: that they end within the book is tested once.
 fn words_pass(book: &[u8], start: usize, count: u16) -> bool
     requires { start < 2 ^ 31 }
-    ensures { result ≡ passes (table_verdict words_table book.now start count start) }
+    ensures { result ≡ is_ok (table_verdict words_table book.now start count start) }
 {
     if count == 0 {
         return true;
@@ -328,12 +311,12 @@ fn words_pass(book: &[u8], start: usize, count: u16) -> bool
 }
 
 // The first refusal of a table of two words: it is looked for only where the table does not pass.
-fn pairs_verdict(book: &[u8], start: usize, count: u16) -> Verdict
+fn pairs_verdict(book: &[u8], start: usize, count: u16) -> Result<(), Refusal>
     requires { (length book.now ≤ 1048576) × (start < 2 ^ 31) }
     ensures { result ≡ table_verdict words_table book.now start count start }
 {
     if words_pass(book, start, count) {
-        return Verdict::Passed;
+        return Ok(());
     }
     let words = Table {
         size: 8,
@@ -344,65 +327,55 @@ fn pairs_verdict(book: &[u8], start: usize, count: u16) -> Verdict
 }
 
 // The same, at once where the table has no entries.
-fn words_verdict(book: &[u8], start: usize, count: u16) -> Verdict
+fn words_verdict(book: &[u8], start: usize, count: u16) -> Result<(), Refusal>
     requires { (length book.now ≤ 1048576) × (start < 2 ^ 31) }
     ensures { result ≡ table_verdict words_table book.now start count start }
 {
     if count == 0 {
-        return Verdict::Passed;
+        return Ok(());
     }
     pairs_verdict(book, start, count)
 }
 
-// What stands at byte `at`, where a key is due, in a book with this trees mark.
-fn read_key(book: &[u8], trees: bool, at: usize) -> KeyRead
+// The front of the key that is due at byte `at`, in a book with this trees mark.
+fn read_key(book: &[u8], trees: bool, at: usize) -> Result<KeyFront, Refusal>
     requires { (length book.now ≤ 1048576) × (at < 2 ^ 32) }
-    ensures { result ≡ key_read_of (key_verdict trees book.now at) (front_of (key_head book.now at)) }
+    ensures { result ≡ given (key_verdict trees book.now at) (front_of (key_head book.now at)) }
 {
     if book.len() < at + 28 {
-        return KeyRead::Refused(4, at);
+        return Err(Reason::PastEnd.at(at));
     }
     let front = book::key_front(book, at);
     if book.len() < at + 28 + front.len {
-        return KeyRead::Refused(4, at);
+        return Err(Reason::PastEnd.at(at));
     }
     if front.spare != 0 {
-        return KeyRead::Refused(5, at);
+        return Err(Reason::SpareBit.at(at));
     }
-    if (front.btree == 15) & !trees {
-        return KeyRead::Refused(7, at);
+    if (front.btree == btree_id::SNAPSHOT_TREES) & !trees {
+        return Err(Reason::TreeKey.at(at));
     }
-    KeyRead::Key(front)
+    Ok(front)
 }
 
 // The first refusal of the `count` keys from byte `start` on, after which the book ends.
-fn keys_verdict(book: &[u8], trees: bool, count: u16, start: usize) -> Verdict
+fn keys_verdict(book: &[u8], trees: bool, count: u16, start: usize) -> Result<(), Refusal>
     requires { (length book.now ≤ 1048576) × (start < 2 ^ 31) }
     ensures { result ≡ keys_verdict trees book.now count start }
 {
-    let mut left = count;
     let mut at = start;
-    while 0 < left {
-        let k = read_key(book, trees, at);
-        match k {
-            KeyRead::Refused(number, place) => {
-                return Verdict::Refused(number, place);
-            }
-            KeyRead::Key(front) => {
-                at = at + 28 + front.len;
-            }
-        }
-        left -= 1;
+    for _ in 0..count {
+        let front = read_key(book, trees, at)?;
+        at = at + 28 + front.len;
     }
     if at < book.len() {
-        Verdict::Refused(8, at)
-    } else {
-        Verdict::Passed
+        return Err(Reason::BytesLeft.at(at));
     }
+    Ok(())
 }
 
 // The first refusal of the four tables and the keys.
-fn parts_verdict(book: &[u8], h: Header, at: Places) -> Verdict
+fn parts_verdict(book: &[u8], h: Header, at: Places) -> Result<(), Refusal>
     requires { (length book.now ≤ 1048576) × Near at }
     ensures { result ≡ parts_verdict book.now h at }
 {
@@ -416,22 +389,10 @@ fn parts_verdict(book: &[u8], h: Header, at: Places) -> Verdict
         first: 64,
         typed: true,
     };
-    let v = words_verdict(book, at.parents, h.parents);
-    let Verdict::Passed = v else {
-        return v;
-    };
-    let v = words_verdict(book, at.subvolumes, h.subvolumes);
-    let Verdict::Passed = v else {
-        return v;
-    };
-    let v = table_verdict(book, gens, at.gens, h.gens);
-    let Verdict::Passed = v else {
-        return v;
-    };
-    let v = table_verdict(book, alloc, at.alloc, h.alloc);
-    let Verdict::Passed = v else {
-        return v;
-    };
+    words_verdict(book, at.parents, h.parents)?;
+    words_verdict(book, at.subvolumes, h.subvolumes)?;
+    table_verdict(book, gens, at.gens, h.gens)?;
+    table_verdict(book, alloc, at.alloc, h.alloc)?;
     keys_verdict(book, h.trees, h.keys, at.keys)
 }
 
@@ -439,51 +400,47 @@ fn parts_verdict(book: &[u8], h: Header, at: Places) -> Verdict
 const PARENTS_MAX: u16 = 4096;
 
 // The first refusal of a header.
-fn header_verdict(h: Header) -> Verdict
+fn header_verdict(h: Header) -> Result<(), Refusal>
     ensures { result ≡ header_verdict h }
 {
     if (h.layout != 1) | (h.spare != 0) {
-        return Verdict::Refused(3, 0);
+        return Err(Reason::HeaderBad.at(0));
     }
     if h.drawn & (h.parents != 0) {
-        return Verdict::Refused(12, 0);
+        return Err(Reason::DrawnTable.at(0));
     }
     if PARENTS_MAX < h.parents {
-        return Verdict::Refused(13, 0);
+        return Err(Reason::ParentsMany.at(0));
     }
-    Verdict::Passed
+    Ok(())
 }
 
 // The first refusal of the header, the four tables and the keys.
-fn content_verdict(book: &[u8], h: Header, at: Places) -> Verdict
+fn content_verdict(book: &[u8], h: Header, at: Places) -> Result<(), Refusal>
     requires { (length book.now ≤ 1048576) × Near at }
     ensures { result ≡ (header_verdict h then parts_verdict book.now h at) }
 {
-    let v = header_verdict(h);
-    let Verdict::Passed = v else {
-        return v;
-    };
+    header_verdict(h)?;
     parts_verdict(book, h, at)
 }
 
-// Whether the bytes are a book: the header and the places of an accepted one, or the refusal.
-pub fn scan(book: &[u8]) -> Scanned
-    ensures { result ≡ scan_of (parse book.now) }
+// The book that the bytes are, or why they are none.
+pub fn scan(book: &[u8]) -> Result<Book<'_>, Refusal>
+    ensures same { IfOk result (λ b. b.bytes.now ≡ book.now) }
+    ensures refused { IfErr result (λ r. parse book.now ≡ Outcome.refused r.number r.place) }
 {
     if 1048576 < book.len() {
-        return Scanned::Refused(1, 0);
+        return Err(Reason::BookLong.at(0));
     }
     if book.len() < 32 {
-        return Scanned::Refused(2, 0);
+        return Err(Reason::BookShort.at(0));
     }
-    let h = read_header(book);
-    let at = find_places(h);
-    let v = content_verdict(book, h, at);
-    match v {
-        Verdict::Refused(number, place) => Scanned::Refused(number, place),
-        Verdict::Passed => Scanned::Accepted {
-            header: h,
-            places: at,
-        },
-    }
+    let header = read_header(book);
+    let places = find_places(header);
+    content_verdict(book, header, places)?;
+    Ok(Book {
+        bytes: book,
+        header,
+        places,
+    })
 }

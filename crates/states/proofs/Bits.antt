@@ -1,16 +1,19 @@
 -- The number of bits set in an exclusive or is the distance of its two words; the nearest state over a list.
-use Prim.Native.Nat.{ℕ, zero, suc, ◌+◌, ◌/◌, ◌%◌, ◌^◌, ◌<◌, ◌≤◌}
+use Prim.Native.Nat.{ℕ, zero, suc, ◌+◌, ◌/◌, ◌%◌, ◌^◌, ◌<◌}
 use mathlib.Core.Path.{◌≡◌, refl, sym, ap, ap₂, ◌∙◌}
 use mathlib.Core.Bool.{cond}
-use mathlib.Core.List.{List}
+use mathlib.Core.List.{List, [], ◌∷◌}
+use Rattle.std.proofs.Common.{reverse}
+use Rattle.std.proofs.lemmas.Grind.{fold-append}
+use Rattle.std.proofs.lemmas.List.{reverse-append}
+use Rattle.std.specs.List.{fold}
+use Rattle.states.specs.declared.Nearest.{Nearest}
 use native.Mathlib.Nat.{mod-lt, mod-eq_of_lt, mod-one}
 use native.Mathlib.Omega.{arith}
 use lib.Dec.{eqb}
-use lib.ListN.{length, drop, get_or}
 use lib.Pow.{pow_pos, mod-pow-add}
 use lib.Bits.{bit_xor, xor_shr, xor_mod, xor_lt}
 use lib.Count.{ones, ones_cat}
-use Rattle.findings.proofs.Walk.{drop_at, drop_past}
 use Rattle.states.specs.StateDistance.{bits_apart, distance, nearer, state_distance}
 
 -- two digits
@@ -42,12 +45,18 @@ ones_apart x y h k = ap ones (sym (mod-eq_of_lt (xor_lt 32 x y h k))) ∙ low_ap
 
 -- ---- the nearest state of any list
 
--- over the states from the i-th on
-pub distance_next : (word : ℕ) (states : List ℕ) (i : ℕ) → i < length states
-    → state_distance word (drop i states) ≡ nearer (record { distance = distance word (get_or states i 0); state = get_or states i 0 }) (state_distance word (drop (i + 1) states))
-unfolding state_distance
-distance_next word states i h = rw (drop_at states i 0 h)
+-- the nearer of a state and the nearest so far
+abbrev pub nearest_of : ℕ → Nearest → ℕ → Nearest
+nearest_of word nearest state = nearer (record { distance = distance word state; state = state }) nearest
 
-pub distance_none : (word : ℕ) (states : List ℕ) (i : ℕ) → length states ≤ i → state_distance word (drop i states) ≡ record { distance = 32; state = 0 }
+-- from the last state to the first
+from_last : (word : ℕ) (states : List ℕ) → fold (nearest_of word) (record { distance = 32; state = 0 }) (reverse states) ≡ state_distance word states
 unfolding state_distance
-distance_none word states i h = rw (drop_past states i h)
+from_last word [] = refl
+from_last word (state ∷ states) =
+    ap (fold (nearest_of word) (record { distance = 32; state = 0 })) (reverse-append (state ∷ []) states)
+    ∙ fold-append (nearest_of word) (record { distance = 32; state = 0 }) (reverse states) (state ∷ [])
+    ∙ ap (λ (n : Nearest). nearest_of word n state) (from_last word states)
+
+pub fold_states : (word : ℕ) (states : List ℕ) {r : Nearest} → r ≡ fold (nearest_of word) (record { distance = 32; state = 0 }) (reverse states) → r ≡ state_distance word states
+fold_states word states e = e ∙ from_last word states

@@ -1,25 +1,19 @@
 // The rule on state words.
 #![tactic(auto)]
 
-ghost use Rattle.std.specs.Prelude.{◌≡◌, ◌&&◌, ◌+◌, ◌^◌, ◌<◌, ◌≤◌};
-ghost use Rattle.findings.specs.Findings.{sink, finding, when, Found, Added};
+ghost use Rattle.std.specs.Prelude.{◌≡◌, ◌+◌, ◌^◌, ◌<◌, ◌≤◌};
+ghost use Rattle.findings.specs.Reports.{Reports};
 ghost use Rattle.book.specs.Book.{bkey};
 ghost use Rattle.states.specs.StateDistance.{distance, nearer, state_distance};
-ghost use Rattle.states.specs.Steps.{word_or_zero};
-ghost use Rattle.states.specs.CheckStateWords.{
-  state_required,
-  snapshot_state,
-  subvol_state_unset,
-  subvolume_word,
-  subvolume_state,
-  check_state_words,
-};
+ghost use Rattle.states.specs.CheckStateWords.{state_required, check_state_words};
 
 use book::KeyHead;
-use findings::emit_if;
+use book::names::{btree_id, key_type};
+use findings::kind::Kind;
+use findings::report::Report;
 
-// A format version: six bits major above ten bits minor.
-#[derive(Clone, Copy)]
+// A format version: six bits major above ten bits minor, compared as one number.
+#[derive(Clone, Copy, PartialEq, Eq, PartialOrd, Ord)]
 pub struct Version(pub u16);
 
 // Version 1.39: from here on states must be set.
@@ -52,11 +46,12 @@ pub const SNAP_DELETED: u32 = 0x7cd4_a225;
 
 const SNAP_STATES: [u32; 4] = [SNAP_LIVE, SNAP_WILL_DELETE, SNAP_NO_KEYS, SNAP_DELETED];
 
-// Whether states must be set at a version, which is compared as one number.
+// Whether states must be set at a version.
+#[tactic(auto, unfolding(crate::specs::CheckStateWords::state_required))]
 fn state_required(version: Version) -> bool
     ensures { result ≡ state_required version.0 }
 {
-    STATE_REQUIRED_FROM.0 <= version.0
+    STATE_REQUIRED_FROM <= version
 }
 
 // How many bits of two words differ.
@@ -83,145 +78,135 @@ fn nearer(a: Nearest, b: Nearest) -> Nearest
     b
 }
 
-// The nearest of these states to a word, the first listed of equals, and the bits that it is away; 32 and 0 where there is none.
+// The nearest of these states to a word, the first listed of equals, and the bits that it is away.
+// No Option: 32 and 0 stand for no state, as the definition of the distance says.
 pub fn state_distance(word: u32, states: &[u32]) -> Nearest
     ensures { result ≡ state_distance word states.now }
 {
-    let mut nearest = Nearest {
+    let none = Nearest {
         distance: 32,
         state: 0,
     };
-    let mut i = states.len();
-    while 0 < i {
-        i -= 1;
-        let state = states[i];
+    states.iter().rev().fold(none, |nearest, &state| {
         let distance = bits_apart(word, state);
-        nearest = nearer(Nearest { distance, state }, nearest);
+        nearer(Nearest { distance, state }, nearest)
+    })
+}
+
+// The value of a key to be judged: the version of its book, its bytes, and the key's index.
+#[derive(Clone, Copy)]
+struct Judged<'a> {
+    version: Version,
+    value: &'a [u8],
+    index: u64,
+}
+
+impl<'a> Judged<'a> {
+    ghost use Rattle.std.specs.Prelude.{◌≡◌, ◌&&◌, ◌+◌, ◌^◌, ◌<◌, ◌≤◌};
+    ghost use Rattle.findings.specs.Findings.{finding, when};
+    ghost use Rattle.findings.specs.Reports.{Reports};
+    ghost use Rattle.states.specs.Steps.{word_or_zero};
+    ghost use Rattle.states.specs.CheckStateWords.{
+      state_required,
+      snapshot_state,
+      subvol_state_unset,
+      subvolume_word,
+      subvolume_state,
+    };
+
+    // The word at byte `at` of the value, or 0 where the value ends before it does.
+    fn word_or_zero(&self, at: usize) -> u32
+        requires { at < 2 ^ 32 }
+        ensures { result ≡ word_or_zero self.now.value.now at }
+    {
+        if at + 4 <= self.value.len() {
+            return bits::le32(self.value, at);
+        }
+        0
     }
-    nearest
-}
 
-// The word at byte `at` of a value, or 0 where the value ends before it does.
-fn word_or_zero(value: &[u8], at: usize) -> u32
-    requires { at < 2 ^ 32 }
-    ensures { result ≡ word_or_zero value.now at }
-{
-    if at + 4 <= value.len() {
-        return bits::le32(value, at);
+    // The findings of a snapshot's state word.
+    fn check_snapshot_state(&self, report: &mut Report<'_>)
+        requires { report.old.found < 2 ^ 62 }
+        ensures reports { Reports report.old (snapshot_state self.now.version.0 self.now.index self.now.value.now) report.new }
+        ensures few { report.new.found ≤ report.old.found + 2 }
+    {
+        let word = self.word_or_zero(SNAP_STATE);
+        let nearest = state_distance(word, &SNAP_STATES);
+        let d = nearest.distance;
+        let flipped = nearest.state as u64;
+        let near = (0 < d) & (d <= 2);
+        report.emit_if(near, Kind::SnapshotStateBitflip, self.index, flipped);
+        let bad = (2 < d) & state_required(self.version);
+        report.emit_if(bad, Kind::SnapshotStateBad, self.index, 0);
     }
-    0
-}
 
-// The findings of a snapshot's state word.
-fn check_snapshot_state(
-    version: Version,
-    value: &[u8],
-    i: u64,
-    out: &mut [u8],
-    counts: &mut [u64],
-    n: usize,
-) -> usize
-    requires { n < 2 ^ 62 }
-    ensures added { Added (sink out.old counts.old) n (snapshot_state version.0 i value.now) result (sink out.new counts.new) }
-    ensures few { result ≤ n + 2 }
-{
-    let word = word_or_zero(value, SNAP_STATE);
-    let nearest = state_distance(word, &SNAP_STATES);
-    let d = nearest.distance;
-    let state = nearest.state as u64;
-    let required = state_required(version);
-    let n = emit_if(out, counts, n, (0 < d) & (d <= 2), 23, i, state);
-    emit_if(out, counts, n, (2 < d) & required, 24, i, 0)
-}
-
-// The finding of a subvolume's state that is not set, for versions where it must be.
-fn check_subvolume_state(
-    version: Version,
-    value: &[u8],
-    i: u64,
-    out: &mut [u8],
-    counts: &mut [u64],
-    n: usize,
-) -> usize
-    requires { n < 2 ^ 62 }
-    ensures added { Added (sink out.old counts.old) n (when (state_required version.0 && subvol_state_unset value.now) (finding 25 i 0)) result (sink out.new counts.new) }
-    ensures few { result ≤ n + 1 }
-{
-    let word = word_or_zero(value, SUBVOL_STATE);
-    let required = state_required(version);
-    emit_if(
-        out,
-        counts,
-        n,
-        required & ((16 <= value.len()) & (word == 0)),
-        25,
-        i,
-        0,
-    )
-}
-
-// The findings of a subvolume's state word.
-fn check_subvolume_word(
-    version: Version,
-    word: u32,
-    i: u64,
-    out: &mut [u8],
-    counts: &mut [u64],
-    n: usize,
-) -> usize
-    requires { n < 2 ^ 62 }
-    ensures added { Added (sink out.old counts.old) n (subvolume_word version.0 i word) result (sink out.new counts.new) }
-    ensures few { result ≤ n + 3 }
-{
-    if word != 0 {
-        let near = state_distance(word, &SUBVOL_STATES);
-        let d = near.distance;
-        let state = near.state as u64;
-        let required = state_required(version);
-        let n = emit_if(out, counts, n, (0 < d) & (d <= 2), 26, i, state);
-        let n = emit_if(out, counts, n, 6 < d, 27, i, 0);
-        return emit_if(out, counts, n, ((2 < d) & (d <= 6)) & required, 25, i, 0);
+    // The finding of a subvolume's state that is not set, for versions where it must be.
+    fn check_subvolume_state(&self, report: &mut Report<'_>)
+        requires { report.old.found < 2 ^ 62 }
+        ensures reports { Reports report.old (when (state_required self.now.version.0 && subvol_state_unset self.now.value.now) (finding 25 self.now.index 0)) report.new }
+        ensures few { report.new.found ≤ report.old.found + 1 }
+    {
+        let word = self.word_or_zero(SUBVOL_STATE);
+        let required = state_required(self.version);
+        let unset = (16 <= self.value.len()) & (word == 0);
+        report.emit_if(required & unset, Kind::SubvolStateBad, self.index, 0);
     }
-    n
+
+    // The findings of a subvolume's state word.
+    fn check_subvolume_word(&self, word: u32, report: &mut Report<'_>)
+        requires { report.old.found < 2 ^ 62 }
+        ensures reports { Reports report.old (subvolume_word self.now.version.0 self.now.index word) report.new }
+        ensures few { report.new.found ≤ report.old.found + 3 }
+    {
+        if word == 0 {
+            return;
+        }
+        let nearest = state_distance(word, &SUBVOL_STATES);
+        let d = nearest.distance;
+        let state = nearest.state as u64;
+        let near = (0 < d) & (d <= 2);
+        report.emit_if(near, Kind::SubvolStateBitflip, self.index, state);
+        report.emit_if(6 < d, Kind::SubvolStateInvalid, self.index, 0);
+        let bad = ((2 < d) & (d <= 6)) & state_required(self.version);
+        report.emit_if(bad, Kind::SubvolStateBad, self.index, 0);
+    }
+
+    // The findings of a subvolume's state and pad words.
+    fn check_subvolume(&self, report: &mut Report<'_>)
+        requires { report.old.found < 2 ^ 61 }
+        ensures reports { Reports report.old (subvolume_state self.now.version.0 self.now.index self.now.value.now) report.new }
+        ensures few { report.new.found ≤ report.old.found + 5 }
+    {
+        self.check_subvolume_state(report);
+        self.check_subvolume_word(self.word_or_zero(SUBVOL_STATE), report);
+        let pad = self.word_or_zero(SUBVOL_PAD);
+        report.emit_if(pad != 0, Kind::SubvolPadNonzero, self.index, 0);
+    }
 }
 
-// The findings of a subvolume's state and pad words.
-fn check_subvolume(
-    version: Version,
-    value: &[u8],
-    i: u64,
-    out: &mut [u8],
-    counts: &mut [u64],
-    n: usize,
-) -> usize
-    requires { n < 2 ^ 61 }
-    ensures added { Added (sink out.old counts.old) n (subvolume_state version.0 i value.now) result (sink out.new counts.new) }
-    ensures few { result ≤ n + 5 }
-{
-    let n = check_subvolume_state(version, value, i, out, counts, n);
-    let word = word_or_zero(value, SUBVOL_STATE);
-    let n = check_subvolume_word(version, word, i, out, counts, n);
-    let pad = word_or_zero(value, SUBVOL_PAD);
-    emit_if(out, counts, n, pad != 0, 28, i, 0)
-}
-
-// The findings of the state and pad words of the key number i: of a snapshot's state, and of a subvolume's state and pad.
+// The findings of the state and pad words of a key: of a snapshot's state, and of a subvolume's state and pad.
 pub fn check_state_words(
     version: Version,
-    h: KeyHead,
+    head: KeyHead,
     value: &[u8],
-    i: u64,
-    out: &mut [u8],
-    counts: &mut [u64],
-) -> usize
-    ensures found { Found (sink out.old counts.old) (check_state_words version.0 i (bkey h value.now)) result (sink out.new counts.new) }
-    ensures few { result ≤ 5 }
+    index: u64,
+    report: &mut Report<'_>,
+)
+    requires { report.old.found < 2 ^ 61 }
+    ensures reports { Reports report.old (check_state_words version.0 index (bkey head value.now)) report.new }
+    ensures few { report.new.found ≤ report.old.found + 5 }
 {
-    if ((h.btree == 9) & (h.key_type == 22)) & (24 <= value.len()) {
-        return check_snapshot_state(version, value, i, out, counts, 0);
+    let key = Judged {
+        version,
+        value,
+        index,
+    };
+    match (head.btree, head.key_type) {
+        (btree_id::SNAPSHOTS, key_type::SNAPSHOT) if 24 <= value.len() => {
+            key.check_snapshot_state(report)
+        }
+        (btree_id::SUBVOLUMES, key_type::SUBVOLUME) => key.check_subvolume(report),
+        _ => {}
     }
-    if (h.btree == 8) & (h.key_type == 21) {
-        return check_subvolume(version, value, i, out, counts, 0);
-    }
-    0
 }

@@ -1,6 +1,6 @@
 -- The pairs of a group: where they start and end among sorted pairs, and a walk over them.
 use Prim.Native.Nat.{ℕ, zero, suc, ◌+◌, ◌-◌, ◌*◌, ◌/◌, ◌%◌, ◌^◌, ◌≤◌, ◌<◌}
-use mathlib.Core.Path.{◌≡◌, refl, sym, ap, ◌∙◌}
+use mathlib.Core.Path.{subst, ◌≡◌, refl, sym, ap, ◌∙◌}
 use mathlib.Core.List.{List, [], ◌∷◌, ◌++◌, append-nil}
 use native.Mathlib.Nat.{add-zero, le_refl}
 use native.Mathlib.Numerals.{add-one}
@@ -98,10 +98,12 @@ pub record Shown (s w : List ℕ) (n kind group id from : ℕ) (o : Sink) (m i f
   pub own : (k : ℕ) → from ≤ k → k < i → get_or w (2 * k) 0 ≡ group
   pub added : Added o m (group_findings s kind group id (pairs_of w i)) found o'
 
--- they gave all, r in all, and behind them starts the next group
-abbrev Done : (s w : List ℕ) (n kind group id from : ℕ) (o : Sink) (m r : ℕ) (o' : Sink) → Type 0
-Done s w n kind group id from o m r o' =
-    Added o m (group_findings s kind group id (pairs_of w n)) r o' × ((m ≤ r) × GroupFrom w n (group + 1) (from + (r - m)))
+-- they gave all, r in all, and at pair e starts the next group
+pub record Done (s w : List ℕ) (n kind group id : ℕ) (o : Sink) (m from r e : ℕ) (o' : Sink) : Type 0 where
+  pub added : Added o m (group_findings s kind group id (pairs_of w n)) r o'
+  pub ends : GroupFrom w n (group + 1) e
+  pub past : from ≤ e
+  pub number : r + from ≡ m + e
 
 module _ {s w : List ℕ} {n kind group id from : ℕ} {o : Sink} {m : ℕ} (fits : Words w) where
   pub shown_none : GroupFrom w n group from → Shown s w n kind group id from o m from m o
@@ -144,34 +146,37 @@ module _ {s w : List ℕ} {n kind group id from : ℕ} {o : Sink} {m : ℕ} (fit
 
   module _ {i found : ℕ} {o₁ : Sink} (t : Shown s w n kind group id from o m i found o₁) where
     -- where no pair from i on is of the group
-    shown_done : ((k : ℕ) → i ≤ k → k < n → group + 1 ≤ get_or w (2 * k) 0) → Done s w n kind group id from o m found o₁
+    shown_done : ((k : ℕ) → i ≤ k → k < n → group + 1 ≤ get_or w (2 * k) 0) → Done s w n kind group id o m from found i o₁
     shown_done above =
         let all : i + (n - i) ≡ n = omega (arith, t.inside) in
-        let place : from + (found - m) ≡ i = omega (arith, t.number, t.past) in
-        let none = group_other s kind group id w fits i (n - i) (λ k a l e. omega (arith, above k a (omega arith))) in (
-          added_as (sym none ∙ ap (λ (k : ℕ). group_findings s kind group id (pairs_of w k)) all) t.added,
-          (
-            omega (arith, t.number, t.past),
-            rw place (record {
-              inside = t.inside;
-              below = λ k l. less_or_not k from (λ b. omega (arith, t.start.below k b)) (λ b. omega (arith, t.own k b l));
-              above = above;
-            }),
-          ),
-        )
+        let none = group_other s kind group id w fits i (n - i) (λ k a l e. omega (arith, above k a (omega arith))) in
+        record {
+          added = added_as (sym none ∙ ap (λ (k : ℕ). group_findings s kind group id (pairs_of w k)) all) t.added;
+          ends = record {
+            inside = t.inside;
+            below = λ k l. less_or_not k from (λ b. omega (arith, t.start.below k b)) (λ b. omega (arith, t.own k b l));
+            above = above;
+          };
+          past = t.past;
+          number = t.number;
+        }
 
     -- it ends at the first pair of another group, or past the last pair
-    pub shown_end : Sorted (pairs_of w n) → i < n → (get_or w (2 * i) 0 ≡ group → ⊥) → Done s w n kind group id from o m found o₁
+    pub shown_end : Sorted (pairs_of w n) → i < n → (get_or w (2 * i) 0 ≡ group → ⊥) → Done s w n kind group id o m from found i o₁
     shown_end sorted l d = shown_done (λ k a b. omega (arith, t.start.above i t.past l, words_rise w n fits sorted i k a b))
 
-    pub shown_all : n ≤ i → Done s w n kind group id from o m found o₁
-    shown_all h = shown_done (λ k a b. absurd (omega arith))
+    pub shown_all : n ≤ i → Done s w n kind group id o m from found n o₁
+    shown_all h =
+        let at : n ≡ i = omega (arith, t.inside) in
+        subst (λ (e : ℕ). Done s w n kind group id o m from found e o₁) (sym at) (shown_done (λ k a b. absurd (omega arith)))
 
   -- the rest of the group is counted, where no finding fits any more
   pub shown_rest : kind < 2 ^ 8 → id < 2 ^ 64 → {i found e : ℕ} {o₁ c₁ c₂ : List ℕ} → Shown s w n kind group id from o m i found (sink o₁ c₁) → i < n → get_or w (2 * i) 0 ≡ group
-      → length o₁ / 17 ≤ found → GroupFrom w n (group + 1) e → c₂ ≡ bump c₁ kind (e - i) → Done s w n kind group id from o m (found + (e - i)) (sink o₁ c₂)
+      → length o₁ / 17 ≤ found → GroupFrom w n (group + 1) e → c₂ ≡ bump c₁ kind (e - i) → Done s w n kind group id o m from (found + (e - i)) e (sink o₁ c₂)
   shown_rest kl il {i} {found} {e} {c₁ = c₁} t l g h next counted =
       let past = before_end w n group next l g in
+      let at : i + (e - i) ≡ e = omega arith in
       let own : (k : ℕ) → i ≤ k → k < i + (e - i) → get_or w (2 * k) 0 ≡ group = λ k a b.
       omega (arith, next.below k (omega arith), t.start.above k (omega (arith, t.past)) (omega (arith, next.inside))) in
-      rw (counted, ← bumps_once c₁ kind (e - i) (omega arith)) (shown_done (shown_full kl il t h (e - i) (omega (arith, next.inside)) own) (λ k a b. next.above k (omega arith) b))
+      let done = shown_done (shown_full kl il t h (e - i) (omega (arith, next.inside)) own) (λ k a b. next.above k (omega arith) b) in
+      rw (counted, ← bumps_once c₁ kind (e - i) (omega arith)) (rw at at done)

@@ -18,12 +18,14 @@ use Rattle.pairs.proofs.Words.{pair_first, pair_second, length_pairs, second}
 use Rattle.book.specs.Book.{Bkey, Book, is, key_end, keys_from}
 use Rattle.book.specs.Walk.{KeysFit}
 use Rattle.book.proofs.Laws.{key_end_lem}
+use Rattle.book.proofs.Walk.{parts}
+use Rattle.subvolumes.specs.declared.grouped.States.{States}
 use Rattle.maps.proofs.Pairs.{keep_sort}
 use Rattle.maps.proofs.Last.{sorted_from}
 use Rattle.states.specs.StateDistance.{snap_live, subvol_unlinked, subvol_deleted}
 use Rattle.subvolumes.specs.SubvolumeStates.{is_live_snapshot, has_subvol_state, subvol_state, unavailable, live_snapshot_of, tree_of_subvolume, subvolume_findings, subvolume_states}
 use Rattle.walk.specs.Keys.{key_at, gather, any_key}
-use Rattle.subvolumes.specs.Steps.{is_tree, in_group, group_of, state_pair, Grouped, group_findings, judged}
+use Rattle.subvolumes.specs.Steps.{is_tree, in_group, group_of, state_pair, group_findings, judged}
 use Rattle.subvolumes.proofs.Groups.{Words, group_append, group_nil, group_pair}
 
 -- ---- a group, key after key
@@ -159,10 +161,18 @@ module _ (s : List ℕ) (small : length s ≤ 1048576) where
 
 -- ---- the pairs of all keys, sorted, and no pairs
 
+-- the first n pairs of w are sorted, and the second word of each is where a key's head stands in the book s
+pub record Grouped (s w : List ℕ) (n : ℕ) : Type 0 where
+  pub small : length s ≤ 1048576
+  pub room : 2 * n ≤ length w
+  pub sorted : Sorted (pairs_of w n)
+  pub heads : (k : ℕ) → k < n → get_or w (2 * k + 1) 0 + 28 ≤ length s
+
 pub all_grouped : (s w : List ℕ) (m n p : ℕ) → length s ≤ 1048576 → KeysFit s n p → Words w → 2 * m ≤ length w
     → pairs_of w m ≡ sort (gather state_pair s n p) → Grouped s w m
 unfolding Permuted
 all_grouped s w m n p small fit fits room e = record {
+  small = small;
   room = room;
   sorted = sorted_by (gather state_pair s n p) (pairs_of w m) e;
   heads = λ k l.
@@ -171,6 +181,12 @@ all_grouped s w m n p small fit fits room e = record {
       rw (sort_permuted (gather state_pair s n p) y, ← e) (there (pairs_of w m) k (rw length_pairs l)) in
       rw (← second w m fits k l) (all_heads s small n p fit y there-is);
 }
+
+-- those of a book's states
+pub grouped : (st : States) → Grouped st.book.bytes.now st.pairs.words.now st.pairs.count
+grouped st =
+    let p = parts st.book.opened in
+    all_grouped st.book.bytes.now st.pairs.words.now st.pairs.count st.book.header.keys st.book.places.keys p.small p.keys_fit st.pairs.wide st.pairs.inside st.all
 
 -- ---- the rule
 

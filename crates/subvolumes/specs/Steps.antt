@@ -1,8 +1,8 @@
 -- What only contracts of private functions cite.
-use Rattle.std.specs.Prelude.{ℕ, ◌+◌, ◌*◌, ◌/◌, ◌%◌, ◌^◌, ◌≤◌, ◌<◌, ◌≡◌, Bool, cond, ◌&&◌, ◌||◌, List, [], ◌∷◌, ◌++◌, length, get_or, eqb, leb}
+use Rattle.std.specs.Prelude.{ℕ, ◌+◌, ◌*◌, ◌/◌, ◌%◌, ◌^◌, ◌≤◌, ◌<◌, Bool, cond, ◌&&◌, ◌||◌, List, [], ◌∷◌, ◌++◌, length, get_or, eqb, leb}
 use Rattle.bits.specs.Bits.{le_at}
 use Rattle.findings.specs.Findings.{Finding, finding, when, only, each}
-use Rattle.pairs.specs.Pairs.{pair, pairs_of, Sorted}
+use Rattle.pairs.specs.Pairs.{pair}
 use Rattle.book.specs.Book.{Bkey, is}
 use Rattle.walk.specs.Keys.{key_at}
 use Rattle.states.specs.StateDistance.{subvol_deleted}
@@ -23,12 +23,6 @@ group_of k = cond (is_live_snapshot k) (2 * le_at k.value 16 4) (2 * le_at k.val
 -- the pair of such a key at byte p: its group and p
 unfoldable pub state_pair : ℕ → Bkey → List ℕ
 state_pair p k = cond (in_group k) (pair (group_of k) p ∷ []) []
-
--- the first n pairs of w are sorted, and the second word of each is where a key's head stands in the book s
-pub record Grouped (s w : List ℕ) (n : ℕ) : Type 0 where
-  pub room : 2 * n ≤ length w
-  pub sorted : Sorted (pairs_of w n)
-  pub heads : (k : ℕ) → k < n → get_or w (2 * k + 1) 0 + 28 ≤ length s
 
 -- of the first n pairs those before pair i have a first word below the group, and the others not
 pub record GroupFrom (w : List ℕ) (n group i : ℕ) : Type 0 where

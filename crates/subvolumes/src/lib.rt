@@ -1,284 +1,187 @@
 // The rules on unavailable subvolumes.
 #![tactic(auto)]
 
-ghost use Rattle.std.specs.Prelude.{◌≡◌, ◌++◌, ◌&&◌, ◌+◌, ◌-◌, ◌*◌, ◌^◌, ◌<◌, ◌≤◌, length, eqb};
-ghost use Rattle.findings.specs.Findings.{sink, each, Found, Added};
-ghost use Rattle.pairs.specs.Pairs.{pairs_of, Sorted};
+ghost use Rattle.std.specs.Prelude.{◌≡◌, true, ◌++◌, ◌+◌, ◌*◌, ◌^◌, ◌<◌, ◌≤◌, length};
+ghost use Rattle.findings.specs.Findings.{each};
+ghost use Rattle.findings.specs.Reports.{Reports, kind_number};
+ghost use Rattle.pairs.specs.Pairs.{pairs_of};
 ghost use Rattle.book.specs.Book.{book_of};
-ghost use Rattle.book.specs.Walk.{Opened};
-ghost use Rattle.walk.specs.Keys.{key_at, AtKey, gather, any_key};
+ghost use Rattle.book.specs.Turns.{held};
+ghost use Rattle.walk.specs.Gives.{pair_in};
+ghost use Rattle.walk.specs.Keys.{any_key};
 ghost use Rattle.subvolumes.specs.SubvolumeStates.{is_live_snapshot, unavailable, subvolume_states, is_unavailable};
-ghost use Rattle.subvolumes.specs.Steps.{
-  state_pair,
-  Grouped,
-  GroupFrom,
-  group_findings,
-  judged,
-};
+ghost use Rattle.subvolumes.specs.Steps.{state_pair, GroupFrom, group_findings, judged};
 
-use book::{Header, KeyFront, Places};
-use findings::{count, emit, emit_if};
+use book::names::{btree_id, key_type};
+use book::open::{Book, Key, offset_at};
+use findings::count;
+use findings::kind::Kind;
+use findings::report::Report;
+use grouped::States;
+use pairs::SortedPairs;
 use states::{SNAP_LIVE, SNAP_STATE, SUBVOL_DELETED, SUBVOL_STATE, SUBVOL_UNLINKED};
+use walk::put::put_pairs;
 
-// Whether the key at byte p is an unlinked or deleted subvolume whose offset is an id of 32 bits.
-fn is_gone(book: &[u8], p: usize, f: KeyFront) -> bool
-    requires { AtKey book.now p f }
-    ensures { result ≡ unavailable (key_at book.now p) }
-{
-    if ((f.btree == 8) & (f.key_type == 21)) & (44 <= f.len) {
-        let state = walk::key_word(book, p, f, SUBVOL_STATE);
-        if (state == SUBVOL_UNLINKED) | (state == SUBVOL_DELETED) {
-            return walk::key_offset(book, p, f) <= 0xffff_ffff;
-        }
-    }
-    false
-}
+mod grouped;
 
-// Whether the key at byte p is such a subvolume, and this its id.
-fn is_gone_id(book: &[u8], p: usize, f: KeyFront, id: u64) -> bool
-    requires { AtKey book.now p f }
-    ensures { result ≡ unavailable (key_at book.now p) && eqb (key_at book.now p).offset id }
+// Whether a key is an unlinked or deleted subvolume whose offset is an id of 32 bits.
+fn is_gone(key: Key<'_>) -> bool
+    ensures { result ≡ unavailable (held key.entry) }
 {
-    if is_gone(book, p, f) {
-        return walk::key_offset(book, p, f) == id;
+    if !key.holds(btree_id::SUBVOLUMES, key_type::SUBVOLUME, 44) {
+        return false;
     }
-    false
+    let state = key.word(SUBVOL_STATE);
+    ((state == SUBVOL_UNLINKED) | (state == SUBVOL_DELETED)) & (key.offset() <= 0xffff_ffff)
 }
 
 // Whether an id is in the set of unavailable subvolumes, which are unlinked or deleted.
-pub fn is_unavailable(book: &[u8], h: Header, at: Places, id: u32) -> bool
-    requires { Opened book.now h at }
-    ensures { result ≡ is_unavailable id (book_of book.now).keys }
+pub fn is_unavailable(book: Book<'_>, id: u32) -> bool
+    ensures { result ≡ is_unavailable id (book_of book.entry.bytes.now).keys }
 {
-    let wanted = id as u64;
-    let mut left = h.keys;
-    let mut p = at.keys;
-    while 0 < left {
-        let f = book::key_front(book, p);
-        if is_gone_id(book, p, f, wanted) {
+    for key in book.keys() {
+        if is_gone(key) & (key.offset() == id as u64) {
             return true;
         }
-        p = p + 28 + f.len;
-        left -= 1;
     }
     false
 }
 
-// Whether the key at byte p is a live snapshot.
-pub fn is_live_snapshot(book: &[u8], p: usize, f: KeyFront) -> bool
-    requires { AtKey book.now p f }
-    ensures { result ≡ is_live_snapshot (key_at book.now p) }
+// Whether a key is a live snapshot.
+pub fn is_live_snapshot(key: Key<'_>) -> bool
+    ensures live { result ≡ is_live_snapshot (held key.entry) }
+    ensures long { result ≡ true → 60 ≤ length (held key.entry).value }
 {
-    if ((f.btree == 9) & (f.key_type == 22)) & (60 <= f.len) {
-        return walk::key_word(book, p, f, SNAP_STATE) == SNAP_LIVE;
+    if key.holds(btree_id::SNAPSHOTS, key_type::SNAPSHOT, 60) {
+        return key.word(SNAP_STATE) == SNAP_LIVE;
     }
     false
 }
 
-// Puts the pair that the key at byte p gives behind the first n, and returns their number with it.
-fn put_state(book: &[u8], p: usize, f: KeyFront, work: &mut [u64], n: usize) -> usize
-    requires { AtKey book.now p f × (2 * n + 2 ≤ length work.old) }
-    ensures put { pairs_of work.new result ≡ pairs_of work.old n ++ state_pair p (key_at book.now p) }
-    ensures few { result ≤ n + 1 }
+// The pair of a key, if it is a live snapshot or a tree record: the group of its subvolume, and its place.
+fn state_pair(key: Key<'_>) -> Option<(u64, u64)>
+    ensures { pair_in result ≡ state_pair key.entry.at (held key.entry) }
 {
-    if is_live_snapshot(book, p, f) {
-        let id = walk::key_word(book, p, f, 16) as u64;
-        pairs::put_pair(work, n, 2 * id, p as u64);
-        return n + 1;
+    if is_live_snapshot(key) {
+        return Some((2 * key.word(16) as u64, key.at as u64));
     }
-    if ((f.btree == 15) & (f.key_type == 31)) & (8 <= f.len) {
-        let id = walk::key_word(book, p, f, 0) as u64;
-        pairs::put_pair(work, n, 2 * id + 1, p as u64);
-        return n + 1;
+    if key.holds(btree_id::SNAPSHOT_TREES, key_type::SNAPSHOT_TREE, 8) {
+        return Some((2 * key.word(0) as u64 + 1, key.at as u64));
     }
-    n
+    None
 }
 
-// Puts a pair for each live snapshot and each tree record, in key order, and returns their number.
-fn put_states(book: &[u8], h: Header, at: Places, work: &mut [u64]) -> usize
-    requires { Opened book.now h at × (2 * h.keys ≤ length work.old) }
-    ensures put { pairs_of work.new result ≡ gather state_pair book.now h.keys at.keys }
-    ensures few { result ≤ h.keys }
-{
-    let mut left = h.keys;
-    let mut p = at.keys;
-    let mut n: usize = 0;
-    while 0 < left {
-        let f = book::key_front(book, p);
-        n = put_state(book, p, f, work, n);
-        p = p + 28 + f.len;
-        left -= 1;
-    }
-    n
-}
-
-// The offset of the key whose head stands at byte p.
-fn offset_at(book: &[u8], p: usize) -> u64
-    requires { p + 28 ≤ length book.now }
-    ensures { result ≡ (key_at book.now p).offset }
-{
-    bits::be64(book, p + 16)
-}
-
-// The findings of a kind for each key of a group, whose pairs start at `from` among the first n, with id as object; m were found before.
+// The findings of a kind for each key of a group, whose pairs start at `from`, with id as object; returns where the next group starts.
 // Those that the buffer has no room for are counted without a look at each.
 fn show_group(
-    book: &[u8],
-    work: &[u64],
-    n: usize,
+    states: &States<'_, '_>,
     from: usize,
     group: u64,
-    kind: u8,
+    kind: Kind,
     id: u64,
-    out: &mut [u8],
-    counts: &mut [u64],
-    m: usize,
+    report: &mut Report<'_>,
 ) -> usize
-    requires { Grouped book.now work.now n × GroupFrom work.now n group from × (n < 2 ^ 32) × (group < 2 ^ 34) × (m < 2 ^ 61) }
-    ensures added { Added (sink out.old counts.old) m (group_findings book.now kind group id (pairs_of work.now n)) result (sink out.new counts.new) }
-    ensures ends { (m ≤ result) × GroupFrom work.now n (group + 1) (from + (result - m)) }
+    requires group { GroupFrom states.now.pairs.words.now states.now.pairs.count group from × (group < 2 ^ 34) }
+    requires kind { kind_number kind < 2 ^ 8 }
+    requires found { report.old.found < 2 ^ 61 }
+    ensures reports { Reports report.old (group_findings states.now.book.bytes.now (kind_number kind) group id (pairs_of states.now.pairs.words.now states.now.pairs.count)) report.new }
+    ensures ends { GroupFrom states.now.pairs.words.now states.now.pairs.count (group + 1) result }
+    ensures few { report.new.found ≤ report.old.found + states.now.pairs.count }
 {
-    let room = out.len() / 17;
-    let mut found = m;
-    let mut i = from;
-    while i < n {
-        let q = 2 * i;
-        if work[q] != group {
-            return found;
+    let pairs = states.pairs;
+    for i in from..pairs.count {
+        if pairs.first(i) != group {
+            return i;
         }
-        if room <= found {
-            let more = pairs::lower_bound(work, n, group + 1, 0) - i;
-            count(counts, kind, more as u64);
-            return found + more;
+        if report.buffer.len() / 17 <= report.found {
+            let end = pairs.lower_bound(group + 1, 0);
+            let more = end - i;
+            count(report.counts, kind as u8, more as u64);
+            report.found += more;
+            return end;
         }
-        let place = work[q + 1] as usize;
-        let offset = offset_at(book, place);
-        found = emit(out, counts, found, kind, offset, id);
-        i += 1;
+        let offset = offset_at(states.book.bytes, pairs.second(i) as usize);
+        report.emit(kind, offset, id);
     }
-    found
+    pairs.count
 }
 
-// The findings of a deleted subvolume's snapshots and tree records among the first n pairs: the records' group follows that of the snapshots.
-fn show_deleted(
-    book: &[u8],
-    work: &[u64],
-    n: usize,
-    id: u64,
-    out: &mut [u8],
-    counts: &mut [u64],
-    m: usize,
-) -> usize
-    requires { Grouped book.now work.now n × (n < 2 ^ 32) × (id < 2 ^ 32) × (m < 2 ^ 60) }
-    ensures added { Added (sink out.old counts.old) m (group_findings book.now 30 (2 * id) id (pairs_of work.now n) ++ group_findings book.now 31 (2 * id + 1) id (pairs_of work.now n)) result (sink out.new counts.new) }
-    ensures few { result ≤ m + n + n }
+// The findings of a deleted subvolume's snapshots and tree records: the records' group follows that of the snapshots.
+fn show_deleted(states: &States<'_, '_>, id: u64, report: &mut Report<'_>)
+    requires { (id < 2 ^ 32) × (report.old.found < 2 ^ 60) }
+    ensures reports { Reports report.old (group_findings states.now.book.bytes.now 30 (2 * id) id (pairs_of states.now.pairs.words.now states.now.pairs.count) ++ group_findings states.now.book.bytes.now 31 (2 * id + 1) id (pairs_of states.now.pairs.words.now states.now.pairs.count)) report.new }
+    ensures few { report.new.found ≤ report.old.found + states.now.pairs.count + states.now.pairs.count }
 {
     let group = 2 * id;
-    let from = pairs::lower_bound(work, n, group, 0);
-    let found = show_group(book, work, n, from, group, 30, id, out, counts, m);
-    let next = from + (found - m);
-    show_group(book, work, n, next, group + 1, 31, id, out, counts, found)
+    let from = states.pairs.lower_bound(group, 0);
+    let next = show_group(
+        states,
+        from,
+        group,
+        Kind::SnapshotSubvolStateMismatch,
+        id,
+        report,
+    );
+    show_group(
+        states,
+        next,
+        group + 1,
+        Kind::SnapshotTreeToMissingSubvol,
+        id,
+        report,
+    );
 }
 
-// The findings of the key at byte p, if it is an unavailable subvolume, by the first n pairs of states.
-fn show_subvolume(
-    book: &[u8],
-    p: usize,
-    f: KeyFront,
-    work: &[u64],
-    n: usize,
-    out: &mut [u8],
-    counts: &mut [u64],
-    m: usize,
-) -> usize
-    requires { AtKey book.now p f × Grouped book.now work.now n × (n < 2 ^ 32) × (m < 2 ^ 59) }
-    ensures added { Added (sink out.old counts.old) m (judged book.now (pairs_of work.now n) (key_at book.now p)) result (sink out.new counts.new) }
-    ensures few { result ≤ m + 1 + n + n }
+// The findings of a key, if it is an unavailable subvolume.
+fn show_subvolume(states: &States<'_, '_>, key: Key<'_>, report: &mut Report<'_>)
+    requires { report.old.found < 2 ^ 59 }
+    ensures reports { Reports report.old (judged states.now.book.bytes.now (pairs_of states.now.pairs.words.now states.now.pairs.count) (held key.entry)) report.new }
+    ensures few { report.new.found ≤ report.old.found + 1 + states.now.pairs.count + states.now.pairs.count }
 {
-    if is_gone(book, p, f) {
-        let id = walk::key_offset(book, p, f);
-        let state = walk::key_word(book, p, f, SUBVOL_STATE);
-        let found = emit_if(out, counts, m, id == 1, 29, 1, 0);
-        if state == SUBVOL_DELETED {
-            return show_deleted(book, work, n, id, out, counts, found);
+    if is_gone(key) {
+        let id = key.offset();
+        report.emit_if(id == 1, Kind::RootSubvolMissing, 1, 0);
+        if key.word(SUBVOL_STATE) == SUBVOL_DELETED {
+            show_deleted(states, id, report);
         }
-        return found;
     }
-    m
 }
 
-// The findings of the unavailable subvolumes, by the first n pairs of states.
-fn show_subvolumes(
-    book: &[u8],
-    h: Header,
-    at: Places,
-    work: &[u64],
-    n: usize,
-    out: &mut [u8],
-    counts: &mut [u64],
-) -> usize
-    requires { Opened book.now h at × Grouped book.now work.now n × (n ≤ h.keys) }
-    ensures found { Found (sink out.old counts.old) (each (λ _ k. judged book.now (pairs_of work.now n) k) 0 (book_of book.now).keys) result (sink out.new counts.new) }
-    ensures few { result ≤ h.keys * 74899 }
+// The findings of the unavailable subvolumes.
+fn show_subvolumes(states: &States<'_, '_>, report: &mut Report<'_>)
+    requires { report.old.found < 2 ^ 58 }
+    ensures reports { Reports report.old (each (λ _ k. judged states.now.book.bytes.now (pairs_of states.now.pairs.words.now states.now.pairs.count) k) 0 (book_of states.now.book.bytes.now).keys) report.new }
+    ensures few { report.new.found ≤ report.old.found + states.now.book.header.keys * 74899 }
 {
-    let mut found: usize = 0;
-    let mut left = h.keys;
-    let mut p = at.keys;
-    while 0 < left {
-        let f = book::key_front(book, p);
-        found = show_subvolume(book, p, f, work, n, out, counts, found);
-        p = p + 28 + f.len;
-        left -= 1;
+    for key in states.book.keys() {
+        show_subvolume(states, key, report);
     }
-    found
 }
 
 // Whether some key is an unavailable subvolume.
-fn has_gone(book: &[u8], h: Header, at: Places) -> bool
-    requires { Opened book.now h at }
-    ensures { result ≡ any_key unavailable (book_of book.now).keys }
+fn has_gone(book: Book<'_>) -> bool
+    ensures { result ≡ any_key unavailable (book_of book.entry.bytes.now).keys }
 {
-    let mut left = h.keys;
-    let mut p = at.keys;
-    while 0 < left {
-        let f = book::key_front(book, p);
-        if is_gone(book, p, f) {
+    for key in book.keys() {
+        if is_gone(key) {
             return true;
         }
-        p = p + 28 + f.len;
-        left -= 1;
     }
     false
 }
 
-// Puts the pairs of states, sorted, and returns their number.
-fn sort_states(book: &[u8], h: Header, at: Places, work: &mut [u64]) -> usize
-    requires { Opened book.now h at × (2 * h.keys ≤ length work.old) }
-    ensures put { each (λ _ k. judged book.now (pairs_of work.new result) k) 0 (book_of book.now).keys ≡ subvolume_states (book_of book.now) }
-    ensures grouped { Grouped book.now work.new result }
-    ensures few { result ≤ h.keys }
-{
-    let n = put_states(book, h, at, work);
-    sorting::sort_pairs(work, n);
-    n
-}
-
 // The findings of unlinked and deleted subvolumes, and of live snapshots and tree records of deleted ones.
-pub fn subvolume_states(
-    book: &[u8],
-    h: Header,
-    at: Places,
-    out: &mut [u8],
-    counts: &mut [u64],
-    work: &mut [u64],
-) -> usize
-    requires { Opened book.now h at × (2 * h.keys ≤ length work.old) }
-    ensures found { Found (sink out.old counts.old) (subvolume_states (book_of book.now)) result (sink out.new counts.new) }
-    ensures few { result ≤ h.keys * 74899 }
+pub fn subvolume_states(book: Book<'_>, work: &mut [u64], report: &mut Report<'_>)
+    requires room { 2 * book.header.keys ≤ length work.old }
+    requires found { report.old.found < 2 ^ 58 }
+    ensures reports { Reports report.old (subvolume_states (book_of book.entry.bytes.now)) report.new }
+    ensures few { report.new.found ≤ report.old.found + book.entry.header.keys * 74899 }
 {
-    if has_gone(book, h, at) {
-        let n = sort_states(book, h, at, work);
-        return show_subvolumes(book, h, at, work, n, out, counts);
+    if has_gone(book) {
+        let count = put_pairs(book, state_pair, work);
+        sorting::sort_pairs(work, count);
+        let pairs = SortedPairs::new(work, count);
+        let states = States { book, pairs };
+        show_subvolumes(&states, report);
     }
-    0
 }

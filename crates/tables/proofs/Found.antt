@@ -1,49 +1,29 @@
 -- Laws of a table that rises: a search by the first field finds what the map has.
+use Rattle.std.specs.Prelude.{None, Some}
 use Prim.Native.Nat.{ℕ, zero, suc, ◌+◌, ◌*◌, ◌≤◌, ◌<◌}
-use mathlib.Core.Path.{◌≡◌, refl, sym, ap, ◌∙◌}
+use mathlib.Core.Path.{◌≡◌, sym, ap, ◌∙◌}
 use mathlib.Core.List.{List}
-use mathlib.Core.Option.{none, some}
 use mathlib.Core.Logic.{⊎_elim}
-use native.Mathlib.Nat.{not-suc-le-zero, le_of_suc-le-suc, eq-or-lt_of_le, mul-le-mul_right, le_refl, lt_of_lt_of_le}
+use native.Mathlib.Nat.{not-suc-le-zero, le_of_suc-le-suc, eq-or-lt_of_le}
 use native.Mathlib.Omega.{arith}
-use lib.ListN.{length, get_or}
+use lib.ListN.{get_or}
 use Rattle.bits.specs.Bits.{be_at}
-use Rattle.search.specs.Bound.{LowerBound, Bracket}
-use Rattle.search.proofs.Bracket.{NotFalling, rising_order, le_or_lt, bracket_all, bracket_down}
+use Rattle.search.specs.Bound.{LowerBound}
+use Rattle.search.proofs.Bracket.{le_or_lt}
 use Rattle.book.specs.declared.Table.{Table}
 use Rattle.book.specs.Maps.{lookup, lower_bound}
-use Rattle.book.specs.Book.{words_table, alloc_table, entry_at, table_from}
+use Rattle.book.specs.Book.{words_table, entry_at, table_from}
 use Rattle.book.specs.Walk.{first_at, Rising}
 use Rattle.book.proofs.Tables.{word_be, first_be, pair_at, length_table}
 use Rattle.tables.proofs.Maps.{lookup_none, lookup_some, lower_bound_at}
-
--- each entry of a table that rises lies within the bytes
-pub entry_inside : {t : Table} {s : List ℕ} {start n : ℕ} → Rising t s start n → (k : ℕ) → k < n → start + k * t.size + t.size ≤ length s
-entry_inside {t} {s} {start} {n} r k l = omega (arith, r.inside, mul-le-mul_right t.size l)
-
-pub rising_first : {t : Table} {s : List ℕ} {start n : ℕ} → Rising t s start n → NotFalling (first_at t s start) n
-rising_first {t} {s} {start} {n} r = rising_order (first_at t s start) n r.rises
-
--- an entry that is not above x stands at its place or before it
-pub bracket_from : {t : Table} {s : List ℕ} {start n x low high : ℕ} → Rising t s start n → Bracket (first_at t s start) n x low high →
-    (m : ℕ) → m < high → first_at t s start m ≤ x → Bracket (first_at t s start) n x m high
-bracket_from r b m l h =
-    let i = b.inside in
-    record { ordered = omega arith; inside = i; below = λ k e. lt_of_lt_of_le (r.rises k m e (omega arith)) h; above = b.above }
-
--- an entry that is x stands at its place
-pub bracket_here : {t : Table} {s : List ℕ} {start n x : ℕ} → Rising t s start n → (m : ℕ) → m < n → first_at t s start m ≡ x →
-    Bracket (first_at t s start) n x m m
-bracket_here r m l e =
-    bracket_down _ _ _ _ _ m (rising_first r) (bracket_from r (bracket_all _ _ _) m l (omega (arith, e))) (le_refl m) l (omega (arith, e))
 
 -- a word that was read is the first field of entry i
 pub word_first : (s : List ℕ) → ((j : ℕ) → get_or s j 0 < 256) → (start i : ℕ) {w : ℕ} → w ≡ be_at s (start + i * 8) 4 → w ≡ first_at words_table s start i
 word_first s bytes start i e = word_be s bytes (start + i * 8) e
 
--- and so is a bucket of an alloc table
-pub bucket_first : (s : List ℕ) → ((j : ℕ) → get_or s j 0 < 256) → (start i : ℕ) {w : ℕ} → w ≡ be_at s (start + i * 10) 8 → w ≡ first_at alloc_table s start i
-bucket_first s bytes start i e = e ∙ sym (first_be alloc_table s bytes (start + i * 10) 8 refl)
+-- and so is a bucket, of a table whose first field has 64 bits
+pub bucket_first : (t : Table) (s : List ℕ) → ((j : ℕ) → get_or s j 0 < 256) → (start i : ℕ) {w : ℕ} → t.first ≡ 64 → w ≡ be_at s (start + i * t.size) 8 → w ≡ first_at t s start i
+bucket_first t s bytes start i wide e = e ∙ sym (first_be t s bytes (start + i * t.size) 8 wide)
 
 module _ {A : Type 0} (read : ℕ → A) (t : Table) (s : List ℕ) where
   -- entry k, as a pair of the map
@@ -68,13 +48,13 @@ module _ {A : Type 0} (read : ℕ → A) (t : Table) (s : List ℕ) where
         (λ l. let m : r < n = omega (arith, length_table read t s n p) in omega (arith, first_is r m, b.above r (omega arith) m))
 
     -- at the bound stands x, or the map has nothing for it
-    pub found_at : Rising t s p n → r < n → first_at t s p r ≡ x → lookup x (table_from read t s n p) ≡ some (read (entry_at t s (p + r * t.size)).rest)
+    pub found_at : Rising t s p n → r < n → first_at t s p r ≡ x → lookup x (table_from read t s n p) ≡ Some (read (entry_at t s (p + r * t.size)).rest)
     found_at up l e =
         lookup_some (0, read 0) (table_from read t s n p) x r (omega (arith, length_table read t s n p)) (sym (first_is r l ∙ e))
         (λ j i h. omega (arith, first_is j (omega arith), b.below j i))
-        ∙ ap (λ (e : ℕ × A). some e.1) (table_at n p r (0, read 0) l)
+        ∙ ap (λ (e : ℕ × A). Some e.1) (table_at n p r (0, read 0) l)
 
-    pub found_none : Rising t s p n → (r < n → first_at t s p r ≡ x → ⊥) → lookup x (table_from read t s n p) ≡ none
+    pub found_none : Rising t s p n → (r < n → first_at t s p r ≡ x → ⊥) → lookup x (table_from read t s n p) ≡ None
     found_none up other =
         lookup_none (0, read 0) (table_from read t s n p) x
         (λ k l e.

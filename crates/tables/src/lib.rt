@@ -1,28 +1,118 @@
 // Searches of a book's tables, which stand in its bytes and rise by their first fields.
 #![tactic(auto)]
 
-ghost use Rattle.std.specs.Prelude.{◌≡◌, ◌+◌, ◌≤◌, length};
-ghost use Rattle.search.specs.Bound.{LowerBound, Bracket};
+ghost use Rattle.std.specs.Prelude.{◌≡◌, ◌+◌, ◌*◌, ◌≤◌, length};
+ghost use Rattle.std.proofs.Common.{rules};
+ghost use Rattle.search.specs.Bound.{LowerBound};
 ghost use Rattle.book.specs.Maps.{lookup, lower_bound};
+ghost use Rattle.book.specs.declared.Table.{Table};
 ghost use Rattle.book.specs.Book.{words_table, gens_table, alloc_table, entry_at, words_from, alloc_from, data_type_of};
-ghost use Rattle.book.specs.Walk.{Readable, first_at, Rising, maybe_u8, maybe_u32, alloc_entry_of};
+ghost use Rattle.book.specs.Walk.{Readable, first_at, Rising, alloc_entry_of};
 
 use bits::Cursor;
-use book::{AllocEntry, Entry, MaybeU8, MaybeU32, Table};
+use book::{AllocEntry, Entry, Table};
+use search::Ordered;
+use std::marker::PhantomData;
 
 // What a search from a place on finds: the word, and the place where it ended. Of the place only its bound is promised: it is a place to start the
 // next search from, and no answer depends on it.
 #[derive(Clone, Copy)]
 pub struct WordAt {
     pub at: usize,
-    pub word: MaybeU32,
+    pub word: Option<u32>,
 }
 
-// Entries of a table: those from `low` on, before `high`.
-#[derive(Clone, Copy)]
-pub struct Window {
-    pub low: usize,
-    pub high: usize,
+// A kind of table: its rows, of one size, begin with the field that they rise by.
+trait Row {
+    ghost table: { Table };
+
+    // The first field of row `i` of a table that starts at byte `start`.
+    fn first(book: &[u8], start: usize, i: usize) -> u64
+        requires { start + i * table.size + table.size ≤ length book.now }
+        ensures { result ≡ first_at table book.now start i };
+
+    ghost wide: { 2 ≤ table.size };
+}
+
+// A row of a parents or subvolumes table: two 32-bit words.
+struct Words;
+
+impl Row for Words {
+    ghost table = { words_table };
+
+    #[inline]
+    fn first(book: &[u8], start: usize, i: usize) -> u64 {
+        bits::be32(book, start + i * 8) as u64
+    }
+
+    ghost wide = { Prim.search rules };
+}
+
+// A row of a gens table: a bucket and its generation.
+struct Gens;
+
+impl Row for Gens {
+    ghost table = { gens_table };
+
+    #[inline]
+    fn first(book: &[u8], start: usize, i: usize) -> u64 {
+        bits::be64(book, start + i * 9)
+    }
+
+    ghost wide = { Prim.search rules };
+}
+
+// A row of an alloc table: a bucket and its data type.
+// A size as a const parameter of one type for both would need a bound from below, which a parameter has not.
+struct Alloc;
+
+impl Row for Alloc {
+    ghost table = { alloc_table };
+
+    #[inline]
+    fn first(book: &[u8], start: usize, i: usize) -> u64 {
+        bits::be64(book, start + i * 10)
+    }
+
+    ghost wide = { Prim.search rules };
+}
+
+// The `count` rows of a table that starts at byte `start` of a book, whose first fields rise.
+#[derive(Drop)]
+struct Rows<'a, R: Row> {
+    book: &'a [u8],
+    start: usize,
+    count: usize,
+    of: PhantomData<R>,
+    ghost rising: { Rising R.table book.now start count },
+}
+
+impl<R: Row> Ordered for Rows<'_, R> {
+    type Target = u64;
+
+    ghost number = { λ s. first_at R.table s.book.now s.start };
+
+    ghost count = { λ s. s.count };
+
+    ghost target = { λ x. x };
+
+    // Steps double as long as there are rows.
+    const FAR: usize = usize::MAX;
+
+    #[inline]
+    fn len(&self) -> usize {
+        self.count
+    }
+
+    #[inline]
+    fn is_below(&self, i: usize, x: u64) -> bool {
+        R::first(self.book, self.start, i) < x
+    }
+
+    #[inline]
+    fn is_place(&self, i: usize, x: u64) -> bool {
+        R::first(self.book, self.start, i) == x
+    }
 }
 
 // The entry of a table at byte `at`.
@@ -40,135 +130,36 @@ fn read_entry(book: &[u8], t: Table, at: usize) -> Entry
     }
 }
 
-// The place of `x` among the `count` entries of two 32-bit words from byte `start` on, whose first words rise: how many of these are below it.
-// It is in the window `w`. Each turn halves the size, and tries for equality too: so the choice compiles to moves, where one test makes a branch
-// that can't be predicted.
-fn bound_within(book: &[u8], start: usize, count: usize, w: Window, x: u32) -> usize
-    requires rising { Rising words_table book.now start count }
-    requires bracket { Bracket (first_at words_table book.now start) count x w.low w.high }
-    ensures { LowerBound (first_at words_table book.now start) count x result }
-{
-    let mut base = w.low;
-    let mut size = w.high - w.low;
-    while 0 < size {
-        let mid = base + (size - 1) / 2;
-        let first = bits::be32(book, start + mid * 8);
-        let past = if first < x { mid + 1 } else { base };
-        base = if first == x { mid } else { past };
-        size /= 2;
-    }
-    base
-}
-
-// A window with the place of `x`, which is not before `from`: entries from there on are tried, by steps that double.
-fn window_up(book: &[u8], start: usize, count: usize, from: usize, x: u32) -> Window
-    requires rising { Rising words_table book.now start count }
-    requires bracket { Bracket (first_at words_table book.now start) count x from count }
-    ensures { Bracket (first_at words_table book.now start) count x result.low result.high }
-{
-    let mut low = from;
-    let mut step = 1;
-    while step <= count - low {
-        let i = low + step - 1;
-        let at = start + i * 8;
-        if x <= bits::be32(book, at) {
-            return Window { low, high: i };
-        }
-        low = i + 1;
-        step *= 2;
-    }
-    Window { low, high: count }
-}
-
-// A window with the place of `x`, which is not after `to`: entries before that are tried, by steps that double.
-fn window_down(book: &[u8], start: usize, count: usize, to: usize, x: u32) -> Window
-    requires rising { Rising words_table book.now start count }
-    requires bracket { Bracket (first_at words_table book.now start) count x 0 to }
-    ensures { Bracket (first_at words_table book.now start) count x result.low result.high }
-{
-    let mut high = to;
-    let mut step = 1;
-    while step <= high {
-        let i = high - step;
-        let at = start + i * 8;
-        if bits::be32(book, at) <= x {
-            return Window { low: i, high };
-        }
-        high = i;
-        step *= 2;
-    }
-    Window { low: 0, high }
-}
-
-// A window with the place of `x`: that of entry `near` alone, where this is `x`, else found from there upwards or
-// downwards; of all entries, where `near` is their count.
-fn window_near(book: &[u8], start: usize, count: usize, near: usize, x: u32) -> Window
-    requires { Rising words_table book.now start count × (near ≤ count) }
-    ensures { Bracket (first_at words_table book.now start) count x result.low result.high }
-{
-    if near == count {
-        return Window {
-            low: 0,
-            high: count,
-        };
-    }
-    let at = start + near * 8;
-    let first = bits::be32(book, at);
-    if first == x {
-        return Window {
-            low: near,
-            high: near,
-        };
-    }
-    if first < x {
-        return window_up(book, start, count, near + 1, x);
-    }
-    window_down(book, start, count, near, x)
-}
-
 // The second word that the table has for `id`, whose place is `i`.
-fn word_at(book: &[u8], start: usize, count: usize, i: usize, id: u32) -> MaybeU32
+fn word_at(book: &[u8], start: usize, count: usize, i: usize, id: u32) -> Option<u32>
     requires { Rising words_table book.now start count × LowerBound (first_at words_table book.now start) count id i }
-    ensures { result ≡ maybe_u32 (lookup id (words_from book.now count start)) }
+    ensures { result ≡ (lookup id (words_from book.now count start)) }
 {
     if i == count {
-        return MaybeU32::Absent;
+        return None;
     }
     let at = start + i * 8;
     if bits::be32(book, at) == id {
-        return MaybeU32::Is(bits::be32(book, at + 4));
+        return Some(bits::be32(book, at + 4));
     }
-    MaybeU32::Absent
+    None
 }
 
 // The second word that a table of two 32-bit words has for `id`, a snapshot's parent or a subvolume's snapshot, and the place of `id`. The search starts
 // from the place `near`, such as that of the id before in a chain; from the count, it is among all entries.
 pub fn find_word(book: &[u8], start: usize, count: usize, near: usize, id: u32) -> WordAt
     requires { Rising words_table book.now start count × (near ≤ count) }
-    ensures { (result.word ≡ maybe_u32 (lookup id (words_from book.now count start))) × (result.at ≤ count) }
+    ensures { (result.word ≡ (lookup id (words_from book.now count start))) × (result.at ≤ count) }
 {
-    let w = window_near(book, start, count, near, id);
-    let at = bound_within(book, start, count, w, id);
+    let rows = Rows::<Words> {
+        book,
+        start,
+        count,
+        of: PhantomData,
+    };
+    let at = search::lower_bound_near(&rows, near, id as u64);
     let word = word_at(book, start, count, at, id);
     WordAt { at, word }
-}
-
-// How many of the `count` entries of a table whose first field has 64 bits have one below `bucket`, where these rise: a number in the window `w`. A turn is
-// that of `bound_within`.
-fn lower_bound64(book: &[u8], t: Table, start: usize, count: usize, w: Window, bucket: u64) -> usize
-    requires { (t.first ≡ 64) × (8 ≤ t.size) × Rising t book.now start count × Bracket (first_at t book.now start) count bucket w.low w.high }
-    ensures { LowerBound (first_at t book.now start) count bucket result }
-{
-    let mut base = w.low;
-    let mut size = w.high - w.low;
-    while 0 < size {
-        let mid = base + (size - 1) / 2;
-        let first = bits::be64(book, start + mid * t.size);
-        let past = if first < bucket { mid + 1 } else { base };
-        base = if first == bucket { mid } else { past };
-        size /= 2;
-    }
-    base
 }
 
 // How many entries of a gens table stand before the first whose bucket is `bucket` or above.
@@ -176,87 +167,13 @@ pub fn gens_from(book: &[u8], start: usize, count: usize, bucket: u64) -> usize
     requires { Rising gens_table book.now start count }
     ensures { LowerBound (first_at gens_table book.now start) count bucket result }
 {
-    let gens = Table {
-        size: 9,
-        first: 64,
-        typed: false,
+    let rows = Rows::<Gens> {
+        book,
+        start,
+        count,
+        of: PhantomData,
     };
-    let all = Window {
-        low: 0,
-        high: count,
-    };
-    lower_bound64(book, gens, start, count, all, bucket)
-}
-
-// A window with the place of a bucket among alloc entries, which is not before `from`: entries from there on are tried, by steps that double.
-fn alloc_up(book: &[u8], start: usize, count: usize, from: usize, bucket: u64) -> Window
-    requires rising { Rising alloc_table book.now start count }
-    requires bracket { Bracket (first_at alloc_table book.now start) count bucket from count }
-    ensures { Bracket (first_at alloc_table book.now start) count bucket result.low result.high }
-{
-    let mut low = from;
-    let mut step = 1;
-    while step <= count - low {
-        let i = low + step - 1;
-        let at = start + i * 10;
-        if bucket <= bits::be64(book, at) {
-            return Window { low, high: i };
-        }
-        low = i + 1;
-        step *= 2;
-    }
-    Window { low, high: count }
-}
-
-// A window with the place of a bucket among alloc entries, which is not after `to`: entries before that are tried, by steps that double.
-fn alloc_down(book: &[u8], start: usize, count: usize, to: usize, bucket: u64) -> Window
-    requires rising { Rising alloc_table book.now start count }
-    requires bracket { Bracket (first_at alloc_table book.now start) count bucket 0 to }
-    ensures { Bracket (first_at alloc_table book.now start) count bucket result.low result.high }
-{
-    let mut high = to;
-    let mut step = 1;
-    while step <= high {
-        let i = high - step;
-        let at = start + i * 10;
-        if bits::be64(book, at) <= bucket {
-            return Window { low: i, high };
-        }
-        high = i;
-        step *= 2;
-    }
-    Window { low: 0, high }
-}
-
-// A window with the place of a bucket among alloc entries, found from entry `near` upwards or downwards; of all entries, where `near` is their count.
-fn alloc_around(book: &[u8], start: usize, count: usize, near: usize, bucket: u64) -> Window
-    requires { Rising alloc_table book.now start count × (near ≤ count) }
-    ensures { Bracket (first_at alloc_table book.now start) count bucket result.low result.high }
-{
-    if near == count {
-        return Window {
-            low: 0,
-            high: count,
-        };
-    }
-    let at = start + near * 10;
-    if bits::be64(book, at) < bucket {
-        return alloc_up(book, start, count, near + 1, bucket);
-    }
-    alloc_down(book, start, count, near, bucket)
-}
-
-// How many entries of an alloc table stand before the first whose bucket is `bucket` or above, where `w` is a window with that place.
-fn alloc_within(book: &[u8], start: usize, count: usize, w: Window, bucket: u64) -> usize
-    requires { Rising alloc_table book.now start count × Bracket (first_at alloc_table book.now start) count bucket w.low w.high }
-    ensures { (result ≡ lower_bound bucket (alloc_from book.now count start)) × (result ≤ count) }
-{
-    let alloc = Table {
-        size: 10,
-        first: 64,
-        typed: true,
-    };
-    lower_bound64(book, alloc, start, count, w, bucket)
+    search::lower_bound(&rows, bucket)
 }
 
 // How many entries of an alloc table stand before the first whose bucket is `bucket` or above. The search starts from the place `near`, such as that of
@@ -265,18 +182,23 @@ pub fn alloc_near(book: &[u8], start: usize, count: usize, near: usize, bucket: 
     requires { Rising alloc_table book.now start count × (near ≤ count) }
     ensures { (result ≡ lower_bound bucket (alloc_from book.now count start)) × (result ≤ count) }
 {
-    let w = alloc_around(book, start, count, near, bucket);
-    alloc_within(book, start, count, w, bucket)
+    let rows = Rows::<Alloc> {
+        book,
+        start,
+        count,
+        of: PhantomData,
+    };
+    search::lower_bound_near(&rows, near, bucket)
 }
 
 // The data type of an alloc entry, by the rest of its bits.
-fn data_type(rest: u64) -> MaybeU8
-    ensures { result ≡ maybe_u8 (data_type_of rest) }
+fn data_type(rest: u64) -> Option<u8>
+    ensures { result ≡ (data_type_of rest) }
 {
     if rest / 32768 == 1 {
-        return MaybeU8::Is((rest / 128 % 256) as u8);
+        return Some((rest / 128 % 256) as u8);
     }
-    MaybeU8::Absent
+    None
 }
 
 // The alloc entry at byte `at`.

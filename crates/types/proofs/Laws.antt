@@ -1,9 +1,9 @@
 -- What callers of the rule need of its definition.
+use Rattle.std.specs.Prelude.{None, Option, Some}
 use Prim.Native.Nat.{ℕ}
 use mathlib.Core.Path.{◌≡◌, refl}
 use mathlib.Core.Bool.{false, not, and-false}
 use mathlib.Core.List.{List}
-use mathlib.Core.Option.{Option, none, some}
 use Rattle.pairs.specs.Pairs.{has}
 use Rattle.book.specs.Names.{key_set}
 use Rattle.book.specs.Maps.{lookup}
@@ -19,8 +19,8 @@ type_any i h v w = refl
 -- a key of type set may stand in every btree
 set_outside : (row : Option (List ℕ)) → outside row key_set ≡ false
 unfolding outside has key_types_anywhere
-set_outside none = refl
-set_outside (some row) = and-false (not (has key_set row))
+set_outside None = refl
+set_outside (Some row) = and-false (not (has key_set row))
 
 pub set_anywhere : (btree : ℕ) → foreign_type btree key_set ≡ false
 unfolding foreign_type

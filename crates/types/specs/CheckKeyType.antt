@@ -1,6 +1,5 @@
 -- The rule `check_key_type` (document 02, ticket 4: kind 22). Subject is the key's index, object 0.
-use Rattle.std.specs.Prelude.{ℕ, Bool, false, not, ◌&&◌, List, [], ◌∷◌}
-use Rattle.std.proofs.Math.Option.{Option, none, some}
+use Rattle.std.specs.Prelude.{ℕ, Bool, false, not, ◌&&◌, List, [], ◌∷◌, None, Option, Some}
 use Rattle.findings.specs.Findings.{Finding, finding, when}
 use Rattle.pairs.specs.Pairs.{has}
 use Rattle.book.specs.Names.{extents, inodes, dirents, xattrs, alloc, quotas, stripes, reflink, subvolumes, snapshots}
@@ -57,8 +56,8 @@ key_types_allowed =
 
 -- "its btree has a row, its type is not in the row, and its type is not among KEY_TYPES_ANYWHERE"
 unfoldable pub outside : Option (List ℕ) → ℕ → Bool
-outside none key_type = false
-outside (some row) key_type = not (has key_type row) && not (has key_type key_types_anywhere)
+outside None key_type = false
+outside (Some row) key_type = not (has key_type row) && not (has key_type key_types_anywhere)
 
 -- a type that keys of this btree may not have
 unfoldable pub foreign_type : ℕ → ℕ → Bool

@@ -1,6 +1,5 @@
 -- What only contracts of private functions cite: types as the bits of a mask.
-use Rattle.std.specs.Prelude.{ℕ, ◌+◌, ◌/◌, ◌%◌, ◌^◌, Bool, cond, List, [], ◌∷◌, eqb}
-use Rattle.std.proofs.Math.Option.{Option, none, some}
+use Rattle.std.specs.Prelude.{ℕ, ◌+◌, ◌/◌, ◌%◌, ◌^◌, Bool, cond, List, [], ◌∷◌, eqb, None, Option, Some}
 use Rattle.book.specs.Maps.{lookup}
 use Rattle.types.specs.CheckKeyType.{key_types_allowed}
 
@@ -18,10 +17,10 @@ mask_of [] = 0
 mask_of (t ∷ ts) = with_bit t (mask_of ts)
 
 -- that of a row, if there is one
-unfoldable pub row_mask : Option (List ℕ) → ℕ
-row_mask none = 0
-row_mask (some row) = mask_of row
+unfoldable pub row_mask : Option (List ℕ) → Option ℕ
+row_mask None = None
+row_mask (Some row) = Some (mask_of row)
 
 -- that of a btree's row
-unfoldable pub allowed_mask : ℕ → ℕ
+unfoldable pub allowed_mask : ℕ → Option ℕ
 allowed_mask btree = row_mask (lookup btree key_types_allowed)

@@ -1,14 +1,16 @@
 // The rule on the types that a btree holds: kind 22.
 #![tactic(auto)]
 
-ghost use Rattle.std.specs.Prelude.{◌≡◌, [], ◌<◌, ◌≤◌};
-ghost use Rattle.findings.specs.Findings.{sink, Found};
+ghost use Rattle.std.specs.Prelude.{◌≡◌, [], ◌+◌, ◌^◌, ◌<◌, ◌≤◌};
+ghost use Rattle.findings.specs.Reports.{Reports};
 ghost use Rattle.book.specs.Book.{bkey};
 ghost use Rattle.types.specs.CheckKeyType.{foreign_type, check_key_type};
 ghost use Rattle.types.specs.Steps.{in_mask, allowed_mask};
 
 use book::KeyHead;
-use book::names::{btree_id, key_type};
+use book::names::key_type;
+use findings::kind::Kind;
+use findings::report::Report;
 
 mod rows;
 
@@ -20,75 +22,76 @@ const KEY_TYPES_ANYWHERE: u64 = 1 << key_type::DELETED
     | 1 << key_type::SET
     | 1 << key_type::TYPE_40;
 
-// The last btree that has a row.
-const LAST_BTREE: u8 = btree_id::DAMAGE;
+// The rows of the btrees, in the order of their numbers.
+static KEY_TYPES_ALLOWED: [u64; 29] = [
+    rows::EXTENTS,
+    rows::INODES,
+    rows::DIRENTS,
+    rows::XATTRS,
+    rows::ALLOC,
+    rows::QUOTAS,
+    rows::STRIPES,
+    rows::REFLINK,
+    rows::SUBVOLUMES,
+    rows::SNAPSHOTS,
+    rows::LRU,
+    rows::FREESPACE,
+    rows::NEED_DISCARD,
+    rows::BACKPOINTERS,
+    rows::BUCKET_GENS,
+    rows::SNAPSHOT_TREES,
+    rows::DELETED_INODES,
+    rows::LOGGED_OPS,
+    rows::RECONCILE_WORK,
+    rows::SUBVOLUME_CHILDREN,
+    rows::ACCOUNTING,
+    rows::RECONCILE_HIPRI,
+    rows::RECONCILE_PENDING,
+    rows::RECONCILE_SCAN,
+    rows::RECONCILE_WORK_PHYS,
+    rows::RECONCILE_HIPRI_PHYS,
+    rows::BUCKET_TO_STRIPE,
+    rows::STRIPE_BACKPOINTERS,
+    rows::DAMAGE,
+];
 
 // The last type that has a bit.
 const LAST_BIT: u8 = 63;
 
-// Whether the bit of a type is set in a mask.
+// Whether the bit of a type is set in a mask: no type from 64 on has one.
 fn in_mask(mask: u64, key_type: u8) -> bool
-    requires { key_type < 64 }
     ensures { result ≡ in_mask mask key_type }
 {
+    if LAST_BIT < key_type {
+        return false;
+    }
     (mask >> key_type) % 2 == 1
 }
 
-// The row of a btree, and no bits for one that has none.
-fn allowed(btree: u8) -> u64
+// The row of a btree, if it has one.
+fn allowed(btree: u8) -> Option<u64>
     ensures { result ≡ allowed_mask btree }
 {
-    match btree {
-        btree_id::EXTENTS => rows::EXTENTS,
-        btree_id::INODES => rows::INODES,
-        btree_id::DIRENTS => rows::DIRENTS,
-        btree_id::XATTRS => rows::XATTRS,
-        btree_id::ALLOC => rows::ALLOC,
-        btree_id::QUOTAS => rows::QUOTAS,
-        btree_id::STRIPES => rows::STRIPES,
-        btree_id::REFLINK => rows::REFLINK,
-        btree_id::SUBVOLUMES => rows::SUBVOLUMES,
-        btree_id::SNAPSHOTS => rows::SNAPSHOTS,
-        btree_id::LRU => rows::LRU,
-        btree_id::FREESPACE => rows::FREESPACE,
-        btree_id::NEED_DISCARD => rows::NEED_DISCARD,
-        btree_id::BACKPOINTERS => rows::BACKPOINTERS,
-        btree_id::BUCKET_GENS => rows::BUCKET_GENS,
-        btree_id::SNAPSHOT_TREES => rows::SNAPSHOT_TREES,
-        btree_id::DELETED_INODES => rows::DELETED_INODES,
-        btree_id::LOGGED_OPS => rows::LOGGED_OPS,
-        btree_id::RECONCILE_WORK => rows::RECONCILE_WORK,
-        btree_id::SUBVOLUME_CHILDREN => rows::SUBVOLUME_CHILDREN,
-        btree_id::ACCOUNTING => rows::ACCOUNTING,
-        btree_id::RECONCILE_HIPRI => rows::RECONCILE_HIPRI,
-        btree_id::RECONCILE_PENDING => rows::RECONCILE_PENDING,
-        btree_id::RECONCILE_SCAN => rows::RECONCILE_SCAN,
-        btree_id::RECONCILE_WORK_PHYS => rows::RECONCILE_WORK_PHYS,
-        btree_id::RECONCILE_HIPRI_PHYS => rows::RECONCILE_HIPRI_PHYS,
-        btree_id::BUCKET_TO_STRIPE => rows::BUCKET_TO_STRIPE,
-        btree_id::STRIPE_BACKPOINTERS => rows::STRIPE_BACKPOINTERS,
-        btree_id::DAMAGE => rows::DAMAGE,
-        _ => 0,
-    }
+    KEY_TYPES_ALLOWED.get(btree as usize).copied()
 }
 
 // Whether keys of this btree may not have this type.
 fn is_foreign(btree: u8, key_type: u8) -> bool
     ensures { result ≡ foreign_type btree key_type }
 {
-    if LAST_BTREE < btree {
-        return false;
+    match allowed(btree) {
+        Some(row) => !in_mask(row | KEY_TYPES_ANYWHERE, key_type),
+        None => false,
     }
-    if LAST_BIT < key_type {
-        return true;
-    }
-    !in_mask(allowed(btree), key_type) & !in_mask(KEY_TYPES_ANYWHERE, key_type)
 }
 
 // Kind 22: a key of a type that its btree does not hold.
-pub fn check_key_type(h: KeyHead, i: u64, out: &mut [u8], counts: &mut [u64]) -> usize
-    ensures found { Found (sink out.old counts.old) (check_key_type i (bkey h [])) result (sink out.new counts.new) }
-    ensures few { result ≤ 1 }
+#[tactic(auto, unfolding(crate::specs::CheckKeyType::check_key_type))]
+pub fn check_key_type(h: KeyHead, index: u64, report: &mut Report<'_>)
+    requires { report.old.found < 2 ^ 61 }
+    ensures reports { Reports report.old (check_key_type index (bkey h [])) report.new }
+    ensures few { report.new.found ≤ report.old.found + 1 }
 {
-    findings::emit_if(out, counts, 0, is_foreign(h.btree, h.key_type), 22, i, 0)
+    let foreign = is_foreign(h.btree, h.key_type);
+    report.emit_if(foreign, Kind::BkeyInvalidTypeForBtree, index, 0);
 }

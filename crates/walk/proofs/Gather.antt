@@ -1,4 +1,5 @@
 -- A walk over the keys of a book that puts pairs: its invariant, and the laws by which it begins, turns and ends.
+pub use Rattle.book.proofs.AtKey.{at_key, at_is, at_length, at_long, at_least, at_end, at_word}
 use Prim.Native.Nat.{ℕ, zero, suc, ◌+◌, ◌-◌, ◌≤◌, ◌<◌}
 use mathlib.Core.Path.{◌≡◌, refl, sym, ap, ◌∙◌}
 use mathlib.Core.Bool.{Bool, true, false, true≢false, ◌&&◌}
@@ -17,44 +18,6 @@ use Rattle.book.specs.Walk.{KeysFit, front_of}
 use Rattle.book.proofs.Walk.{step, front_end, value_length, value_word}
 use Rattle.walk.specs.Keys.{key_at, AtKey, gather}
 
--- ---- the key at hand
-
--- a length that was tested
-pub long_enough : (a : Bool) (m n : ℕ) → a && leb m n ≡ true → m ≤ n
-long_enough true m n e = leb-true m n e
-long_enough false m n e = absurd (true≢false (sym e))
-
--- it is at hand where a key is left and its front is read
-pub at_key : {s : List ℕ} {n p : ℕ} {f : KeyFront} → length s ≤ 1048576 → 0 < n → KeysFit s n p → f ≡ front_of (key_head s p) → AtKey s p f
-at_key {s} {n} {p} small left fit front = record { small = small; inside = (step s n p left fit).value; front = front }
-
-module _ {s : List ℕ} {p : ℕ} {f : KeyFront} (k : AtKey s p f) where
-  -- its btree and its type
-  pub at_is : (b t : ℕ) → eqb f.btree b && eqb f.key_type t ≡ is b t (key_at s p)
-  unfolding is
-  at_is b t = rw k.front
-
-  -- the length of its value
-  pub at_length : f.len ≡ length (key_at s p).value
-  unfolding key_end
-  at_length = ap (λ (f : KeyFront). f.len) k.front ∙ sym (value_length s (key_head s p) k.inside)
-
-  -- its btree, its type, and a least length of its value
-  pub at_long : (b t m : ℕ) {x : Bool} → (eqb f.btree b && eqb f.key_type t) && leb m f.len ≡ x → is b t (key_at s p) && leb m (length (key_at s p).value) ≡ x
-  at_long b t m e = rw (← at_is b t, ← at_length) e
-
-  pub at_least : (b t m : ℕ) → (eqb f.btree b && eqb f.key_type t) && leb m f.len ≡ true → m ≤ f.len
-  at_least b t m e = long_enough (eqb f.btree b && eqb f.key_type t) m f.len e
-
-  -- where it ends
-  pub at_end : p + 28 + f.len ≡ key_end s p
-  at_end = front_end s p k.front
-
-  -- a word of it
-  pub at_word : (i n : ℕ) → i + n ≤ f.len → le_at s (p + 28 + i) n ≡ le_at (key_at s p).value i n
-  unfolding key_head
-  at_word i n h = sym (value_word s (key_head s p) i n (rw k.front at h))
-
 -- ---- the walk
 
 -- the `count` keys from byte `start` on give the first n pairs of w and what those from byte p on, `left` of them, give
@@ -63,7 +26,7 @@ pub record Gathered (of : ℕ → Bkey → List ℕ) (s : List ℕ) (count start
   pub few : n + left ≤ count
   pub whole : gather of s count start ≡ pairs_of w n ++ gather of s left p
 
-gather_step : (of : ℕ → Bkey → List ℕ) (s : List ℕ) (n p : ℕ) → 0 < n → gather of s n p ≡ of p (key_at s p) ++ gather of s (n - 1) (key_end s p)
+pub gather_step : (of : ℕ → Bkey → List ℕ) (s : List ℕ) (n p : ℕ) → 0 < n → gather of s n p ≡ of p (key_at s p) ++ gather of s (n - 1) (key_end s p)
 unfolding gather
 gather_step of s zero p h = absurd (omega arith)
 gather_step of s (suc n) p h = let less : suc n - 1 ≡ n = omega arith in rw less

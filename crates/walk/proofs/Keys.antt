@@ -1,4 +1,5 @@
 -- The turn of a rule's walk over the keys of a book, by the step of the book and the turn of the findings.
+pub use Rattle.book.proofs.AtKey.{head_word}
 use Prim.Native.Nat.{ℕ, ◌+◌, ◌-◌, ◌*◌, ◌^◌, ◌≤◌, ◌<◌}
 use mathlib.Core.Path.{◌≡◌, sym}
 use mathlib.Core.List.{List, []}
@@ -27,10 +28,6 @@ value_fits s n p h fit = (step s n p h fit).value
 
 pub rest_fits : (s : List ℕ) (n p : ℕ) {f : KeyFront} → 0 < n → f ≡ front_of (key_head s p) → KeysFit s n p → KeysFit s (n - 1) (p + 28 + f.len)
 rest_fits s n p h e fit = rw (front_end s p e) (step s n p h fit).rest
-
--- a field of a key's head that starts with its byte i and has k whole bytes
-pub head_word : (s : List ℕ) → ((j : ℕ) → get_or s j 0 < 256) → (p i k : ℕ) → be_at s (p + i) k ≡ bits_at s (8 * p + 8 * i) (8 * k)
-head_word s bytes p i k = let place : 8 * p + 8 * i ≡ 8 * (p + i) = omega arith in rw place (sym (bits_be s bytes (p + i) k))
 
 -- an offset has 64 bits
 pub offset_lt : (s : List ℕ) (p : ℕ) → (key_at s p).offset < 2 ^ 64

@@ -1,3 +1,6 @@
 pub mod Keys
 pub mod Gather
 pub mod Sets
+pub mod Visits
+pub mod Puts
+pub mod Passed

@@ -6,7 +6,7 @@ use lib.ListN.{get_or}
 use native.Mathlib.Omega.{arith}
 use borrow.Author.Tests.{ltb-true, eqb-true}
 use Rattle.pairs.proofs.Order.{both_true}
-use Rattle.ancestors.specs.Steps.{is_rooted}
+use Rattle.std.specs.Prelude.{is_some}
 use Rattle.ancestors.proofs.Laws.{lined_few}
 use Rattle.ancestors.proofs.Beside.{lined_up}
 use borrow.Author.Rules.{rules}
@@ -14,14 +14,14 @@ use Rattle.ancestors.proofs.line_beside.Statement.{statement}
 use Rattle.ancestors.proofs.line_beside.Tie as tie
 
 -- what the test for a child says
-test : (c : tie.Then-rooted-line) → let l = c.args.line in
-    (is_rooted l.root ≡ true) × (0 < l.len) × (get_or c.args.ids.now 0 0 ≡ c.args.id)
+test : (c : tie.Then-is_some-line) → let l = c.args.line in
+    (is_some l.root ≡ true) × (0 < l.len) × (get_or c.args.ids.now 0 0 ≡ c.args.id)
 test c =
-    let whole = both_true _ _ c.if-rooted-line.true in
+    let whole = both_true _ _ c.if-is_some-line.true in
     let both = both_true _ _ whole.0 in
-    (sym c.is_rooted-rooted.ensures ∙ both.0, ltb-true _ _ both.1, eqb-true _ _ whole.1)
+    (sym c.is_some.ensures ∙ both.0, ltb-true _ _ both.1, eqb-true _ _ whole.1)
 
-returns_2 : tie.Need-returns-then-rooted-line
+returns_2 : tie.Need-returns-then-is_some-line
 returns_2 c =
     let k = c.before.before.before.before in
     let said = test k in

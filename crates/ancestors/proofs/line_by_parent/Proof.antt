@@ -14,11 +14,11 @@ returns c =
 
 returns_2 : tie.Need-returns-then-p-eq0
 returns_2 c =
-    (lined_top _ _ c.requires.1.full _ _ (top_is _ _ c.parent_in-found.ensures.0 c.in-Is.is c.if-p-eq0.true), (refl, c.parent_in-found.ensures.1))
+    (lined_top _ _ c.requires.1.full _ _ (top_is _ _ c.parent_in-found.ensures.0 c.in-Some.is c.if-p-eq0.true), (refl, c.parent_in-found.ensures.1))
 
 line_under_requires : tie.Need-line_under-requires
 line_under_requires c κs =
-    ((c.requires.0, c.requires.1, c.parent_in-found.ensures.1), (word_is _ (sym c.parent_in-found.ensures.0 ∙ c.in-Is.is), omega (arith, c.if-p-eq0.false)))
+    ((c.requires.0, c.requires.1, c.parent_in-found.ensures.1), (word_is _ (sym c.parent_in-found.ensures.0 ∙ c.in-Some.is), omega (arith, c.if-p-eq0.false)))
 
 pub line_by_parent_spec : {M : Type 1} → statement M
 line_by_parent_spec =

@@ -4,13 +4,13 @@ use borrow.Author.Rules.{rules}
 use Rattle.buckets.proofs.in_use.Statement.{statement}
 use Rattle.buckets.proofs.in_use.Tie as tie
 
-returns : tie.Need-returns-in-Is
+returns : tie.Need-returns-in-Some
 unfolding in_use_of
-returns c = rw c.in-Is.is
+returns c = rw c.in-Some.is
 
-returns_2 : tie.Need-returns-in-Absent
+returns_2 : tie.Need-returns-in-None
 unfolding in_use_of
-returns_2 c = rw c.in-Absent.is
+returns_2 c = rw c.in-None.is
 
 pub in_use_spec : {M : Type 1} → statement M
 in_use_spec =

@@ -4,13 +4,13 @@ use borrow.Author.Rules.{rules}
 use Rattle.buckets.proofs.is_free.Statement.{statement}
 use Rattle.buckets.proofs.is_free.Tie as tie
 
-returns : tie.Need-returns-in-Is
+returns : tie.Need-returns-in-Some
 unfolding is_free_of
-returns c = rw c.in-Is.is
+returns c = rw c.in-Some.is
 
-returns_2 : tie.Need-returns-in-Absent
+returns_2 : tie.Need-returns-in-None
 unfolding is_free_of
-returns_2 c = rw c.in-Absent.is
+returns_2 c = rw c.in-None.is
 
 pub is_free_spec : {M : Type 1} → statement M
 is_free_spec =

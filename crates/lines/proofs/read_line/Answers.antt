@@ -1,6 +1,7 @@
 -- Each turn goes on by a byte that is no newline.
 use Prim.Native.Nat.{◌+◌}
-use mathlib.Core.Path.{refl, sym}
+use mathlib.Core.Path.{◌≡◌, refl, sym}
+use lib.ListN.{length}
 use lib.Seq.{length-take-le}
 use native.Mathlib.Omega.{arith}
 use Rattle.lines.specs.Lines.{line_length}
@@ -36,9 +37,11 @@ loop-n-preserved c =
 
 pub returns : goal.returns
 returns c =
+    let turn = c.loop-n in
+    let whole : turn.n ≡ length turn.line = omega arith in
     record {
       counts = (omega arith, sym (length-take-le _ _ (omega arith)));
       size = omega arith;
-      one = omega arith;
-      rest = drop_later c.loop-n.n _ _ c.loop-n.invariant.3;
+      one = omega (arith, rw whole at turn.invariant.2);
+      rest = drop_later (length turn.line) _ _ (rw whole at turn.invariant.3);
     }

@@ -1,10 +1,9 @@
 -- `tables::word_at` meets its contract: at the place of the id stands an entry with it, or the table has none.
+use Rattle.std.specs.Prelude.{Some}
 use Prim.Native.Nat.{ℕ, ◌+◌, ◌*◌, ◌<◌}
 use mathlib.Core.Path.{refl, sym, ap, ◌∙◌}
 use lib.ListN.{get_or}
-use Rattle.book.specs.declared.MaybeU32.TheVariants.{Is}
 use Rattle.book.specs.Book.{whole_rest, words_table}
-use Rattle.book.specs.Walk.{maybe_u32}
 use Rattle.book.proofs.Tables.{rest_be}
 use Rattle.tables.proofs.Found.{word_first, found_at, found_none}
 use borrow.Author.Rules.{rules}
@@ -16,23 +15,20 @@ bytes : (c : tie.After-shared_slice_known-1) (j : ℕ) → get_or c.args.book.no
 bytes c j = (c.shared_slice_known-1.given j).fits
 
 returns : tie.Need-returns-then-i-count
-unfolding maybe_u32
 returns c =
     let a = c.args in
     rw (found_none whole_rest words_table a.book.now a.count a.start a.id a.i c.requires.1 c.requires.0 (λ l e. omega arith))
 
 returns_2 : tie.Need-returns-then-be32-id
-unfolding maybe_u32
 returns_2 c =
     let k = c.before.before.before.before in
     let a = k.args in
     let s = a.book.now in
     let here = sym (word_first s (bytes k) a.start a.i c.be32.ensures) ∙ c.if-be32-id.true in
     rw (found_at whole_rest words_table s a.count a.start a.id a.i k.requires.1 k.requires.0 (omega (arith, k.requires.1.inside)) here)
-    (ap Is (c.be32-then-be32-id.ensures ∙ sym (rest_be words_table s (bytes k) (a.start + a.i * 8) 4 refl 4 refl)))
+    (ap Some (c.be32-then-be32-id.ensures ∙ sym (rest_be words_table s (bytes k) (a.start + a.i * 8) 4 refl 4 refl)))
 
 returns_3 : tie.Need-returns
-unfolding maybe_u32
 returns_3 c =
     let k = c.before.before.before in
     let a = k.args in
