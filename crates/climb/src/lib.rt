@@ -12,7 +12,6 @@ ghost use Rattle.parents.specs.Sources.{ByKeys, Sourced};
 ghost use Rattle.climb.specs.declared.Step.TheVariants.{End};
 ghost use Rattle.climb.specs.Links.{link_of, least_after, rises_from, Says};
 
-use book::names::{btree_id, key_type};
 use book::open::{Key, Keys};
 use parents::{Root, Source};
 
@@ -35,7 +34,7 @@ enum Step {
 fn link_at(key: Key<'_>) -> Option<Link>
     ensures { result ≡ link_of (held key.entry) }
 {
-    if key.holds(btree_id::SNAPSHOTS, key_type::SNAPSHOT, 8) {
+    if drawn::has_parent(key.front) {
         return Some(Link {
             id: key.id(),
             parent: key.word(4),

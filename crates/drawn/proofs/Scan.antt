@@ -23,6 +23,12 @@ use Rattle.maps.specs.LastKeys.{last_key}
 use Rattle.maps.proofs.Places.{Held}
 use Rattle.drawn.specs.Classes.{SnapshotAt}
 
+-- ---- by the front of the key at hand
+module _ {s : List ℕ} {p : ℕ} {f : KeyFront} (k : AtKey s p f) where
+  pub at_holds : (b t m : ℕ) {x : Bool} → (eqb f.btree b && eqb f.key_type t) && leb m f.len ≡ x → holds b t m (key_at s p) ≡ x
+  unfolding holds
+  at_holds b t m e = at_long k b t m e
+
 -- ---- a walk that keeps the last
 or_with : (m last : Option ℕ) (t : Bool) (p : ℕ) → or_else (or_else m (cond t (Some p) None)) last ≡ or_else m (cond t (Some p) last)
 unfolding or_else

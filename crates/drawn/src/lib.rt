@@ -2,7 +2,7 @@
 // id, by the length that its value has at least; or that snapshot by a walk over the keys.
 #![tactic(auto)]
 
-ghost use Rattle.std.specs.Prelude.{◌≡◌, Some, true, cond, ◌&&◌, ◌+◌, ◌*◌, ◌^◌, ◌≤◌, ◌<◌, length, eqb};
+ghost use Rattle.std.specs.Prelude.{◌≡◌, Some, true, cond, ◌&&◌, ◌+◌, ◌*◌, ◌^◌, ◌≤◌, ◌<◌, length, eqb, leb};
 ghost use Rattle.pairs.specs.Pairs.{pairs_of};
 ghost use Rattle.book.specs.Words.{holds, parent_word, id_of};
 ghost use Rattle.book.specs.Turns.{held};
@@ -11,10 +11,19 @@ ghost use Rattle.walk.specs.Gives.{pair_in};
 ghost use Rattle.maps.specs.LastKeys.{last_key, later, word_at};
 ghost use Rattle.drawn.specs.Classes.{class_of, link_pair, latest, Alone, SnapshotAt};
 
+use book::KeyFront;
 use book::names::{btree_id, key_type};
 use book::open::{Book, Key, Keys};
 use pairs::SortedPairs;
 use walk::put::put_pairs;
+
+// Whether a key is a snapshot with a parent word, by its front.
+#[inline]
+pub fn has_parent(f: KeyFront) -> bool
+    ensures { result ≡ (eqb f.btree 9 && eqb f.key_type 22) && leb 8 f.len }
+{
+    ((f.btree == btree_id::SNAPSHOTS) & (f.key_type == key_type::SNAPSHOT)) & (8 <= f.len)
+}
 
 // The class of a snapshot with so many value bytes.
 fn class_of(bytes: usize) -> u64
@@ -45,7 +54,7 @@ fn link_pair(key: Key<'_>) -> Option<(u64, u64)>
     if key.holds(btree_id::SNAPSHOT_TREES, key_type::SNAPSHOT_TREE, 8) {
         return Some(place_pair(key, 0));
     }
-    if key.holds(btree_id::SNAPSHOTS, key_type::SNAPSHOT, 8) {
+    if has_parent(key.front) {
         return Some(place_pair(key, class_of(key.front.len)));
     }
     None
