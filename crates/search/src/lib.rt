@@ -46,9 +46,9 @@ pub trait Ordered {
 
 // Places among items: those from `low` to `high`.
 #[derive(Clone, Copy)]
-struct Window {
-    low: usize,
-    high: usize,
+pub struct Window {
+    pub low: usize,
+    pub high: usize,
 }
 
 // How many items are below x: a number in the window. It is base or more, and at most base + size. A turn halves the size whichever way the comparison

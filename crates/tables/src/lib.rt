@@ -12,6 +12,7 @@ ghost use Rattle.book.specs.Walk.{Readable, first_at, Rising, alloc_entry_of};
 use bits::Cursor;
 use book::{AllocEntry, Entry, Table};
 use search::Ordered;
+pub use search::Window;
 use std::marker::PhantomData;
 
 // What a search from a place on finds: the word, and the place where it ended. Of the place only its bound is promised: it is a place to start the
