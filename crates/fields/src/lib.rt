@@ -162,11 +162,28 @@ fn minimum_value(h: KeyHead) -> usize
 fn accounting_position_bytes(h: KeyHead) -> [u8; 20]
     ensures { result ≡ accounting_position_bytes (bkey h []) }
 {
-    let mut bytes = [0; 20];
-    bytes[..8].copy_from_slice(&h.inode.to_be_bytes());
-    bytes[8..16].copy_from_slice(&h.offset.to_be_bytes());
-    bytes[16..].copy_from_slice(&h.snapshot.to_be_bytes());
-    bytes
+    [
+        ((h.inode >> 56) % 256) as u8,
+        ((h.inode >> 48) % 256) as u8,
+        ((h.inode >> 40) % 256) as u8,
+        ((h.inode >> 32) % 256) as u8,
+        ((h.inode >> 24) % 256) as u8,
+        ((h.inode >> 16) % 256) as u8,
+        ((h.inode >> 8) % 256) as u8,
+        (h.inode % 256) as u8,
+        ((h.offset >> 56) % 256) as u8,
+        ((h.offset >> 48) % 256) as u8,
+        ((h.offset >> 40) % 256) as u8,
+        ((h.offset >> 32) % 256) as u8,
+        ((h.offset >> 24) % 256) as u8,
+        ((h.offset >> 16) % 256) as u8,
+        ((h.offset >> 8) % 256) as u8,
+        (h.offset % 256) as u8,
+        ((h.snapshot >> 24) % 256) as u8,
+        ((h.snapshot >> 16) % 256) as u8,
+        ((h.snapshot >> 8) % 256) as u8,
+        (h.snapshot % 256) as u8,
+    ]
 }
 
 // Where the devices of a replicas entry end.

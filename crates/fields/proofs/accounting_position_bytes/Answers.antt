@@ -6,15 +6,4 @@ use Rattle.fields.proofs.accounting_position_bytes.Goals as goal
 
 pub returns : goal.returns
 unfolding accounting_position_bytes bytes_of
-returns c =
-    rw (
-      c.copy_from_slice.ensures.after,
-      c.copy_from_slice-2.ensures.after,
-      c.copy_from_slice-3.ensures.after,
-      c.to_be_bytes.ensures,
-      c.to_be_bytes-2.ensures,
-      c.to_be_bytes-3.ensures,
-      div-one,
-      div-one,
-      div-one,
-    )
+returns c = rw (div-one, div-one, div-one)
