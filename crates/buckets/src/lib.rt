@@ -428,12 +428,8 @@ fn show_entries(
         show_entry(e, at, report);
         at = e.bucket + 1;
     }
-    report.emit_if(
-        at < to,
-        Kind::HoleInAllocBtreeMissingInFreespaceBtree,
-        at,
-        to,
-    );
+    let hole = Kind::HoleInAllocBtreeMissingInFreespaceBtree;
+    report.emit_if(at < to, hole, at, to);
 }
 
 // What the buckets from `from` up to `to`, which no run holds, give; returns where the next search starts.
