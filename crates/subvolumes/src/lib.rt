@@ -32,7 +32,10 @@ fn is_gone(key: Key<'_>) -> bool
         return false;
     }
     let state = key.word(SUBVOL_STATE);
-    ((state == SUBVOL_UNLINKED) | (state == SUBVOL_DELETED)) & (key.offset() <= 0xffff_ffff)
+    if (state == SUBVOL_UNLINKED) | (state == SUBVOL_DELETED) {
+        return key.offset() <= 0xffff_ffff;
+    }
+    false
 }
 
 // Whether an id is in the set of unavailable subvolumes, which are unlinked or deleted.
@@ -40,7 +43,7 @@ pub fn is_unavailable(book: Book<'_>, id: u32) -> bool
     ensures { result ≡ is_unavailable id (book_of book.entry.bytes.now).keys }
 {
     for key in book.keys() {
-        if is_gone(key) & (key.offset() == id as u64) {
+        if is_gone(key) && key.offset() == id as u64 {
             return true;
         }
     }

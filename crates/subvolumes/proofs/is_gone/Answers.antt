@@ -8,6 +8,10 @@ pub returns-then-not-holds : goal.returns-then-not-holds
 unfolding holds unavailable has_subvol_state
 returns-then-not-holds c = rw (sym c.holds.ensures.holds ∙ c.if-not-holds.true)
 
+pub returns-then-state : goal.returns-then-state
+unfolding holds unavailable has_subvol_state subvol_state
+returns-then-state c = rw (sym c.holds.ensures.holds ∙ c.if-not-holds.false, ← c.word-state.ensures, c.if-state.true, c.offset.ensures)
+
 pub returns : goal.returns
 unfolding holds unavailable has_subvol_state subvol_state
-returns c = rw (sym c.holds.ensures.holds ∙ c.if-not-holds.false, c.word-state.ensures, c.offset.ensures)
+returns c = rw (sym c.holds.ensures.holds ∙ c.if-not-holds.false, ← c.word-state.ensures, c.if-state.false)
