@@ -17,13 +17,13 @@ returns-then-offset-id c =
 
 pub loop-key-preserved : goal.loop-key-preserved
 loop-key-preserved c = elim c.else-is_gone.branch [
-      else-is_gone-via-then-is_gone+else-offset-id w ↦
-        c.loop-key.invariant
-        ∙ gone_next c.args.id c.loop-key.key-iterator c.next.new.self c.in-Some.key c.in-Some.ensures.steps c.is_gone.ensures w.offset.ensures (rw (w.if-is_gone.true, ne_eqb _ _ w.if-offset-id.false) refl)
-    | else-is_gone-via-else-is_gone w ↦
-        c.loop-key.invariant
-        ∙ gone_next c.args.id c.loop-key.key-iterator c.next.new.self c.in-Some.key c.in-Some.ensures.steps c.is_gone.ensures refl (rw w.if-is_gone.false refl)
-  ]
+  | else-is_gone-via-then-is_gone+else-offset-id w ↦
+      c.loop-key.invariant
+      ∙ gone_next c.args.id c.loop-key.key-iterator c.next.new.self c.in-Some.key c.in-Some.ensures.steps c.is_gone.ensures w.offset.ensures (rw (w.if-is_gone.true, ne_eqb _ _ w.if-offset-id.false) refl)
+  | else-is_gone-via-else-is_gone w ↦
+      c.loop-key.invariant
+      ∙ gone_next c.args.id c.loop-key.key-iterator c.next.new.self c.in-Some.key c.in-Some.ensures.steps c.is_gone.ensures refl (rw w.if-is_gone.false refl)
+]
 
 pub returns : goal.returns
 returns c = sym (c.loop-key.invariant ∙ gone_end c.args.id c.loop-key.key-iterator c.in-None.ensures.steps)
