@@ -1,9 +1,12 @@
 -- What a source says of the parents.
 use Rattle.std.specs.Prelude.{Option}
-use Prim.Native.Nat.{ℕ}
-use mathlib.Core.Path.{◌≡◌, sym, ap, subst, ◌∙◌}
+use Prim.Native.Nat.{ℕ, zero, suc, ◌+◌, ◌*◌, ◌≤◌}
+use mathlib.Core.Path.{◌≡◌, refl, sym, ap, subst, ◌∙◌}
 use mathlib.Core.List.{List}
-use Rattle.pairs.specs.Pairs.{pairs_of, Sorted}
+use native.Mathlib.Omega.{arith}
+use lib.ListN.{take}
+use lib.Seq.{get_or-take}
+use Rattle.pairs.specs.Pairs.{pairs_of, pair_at, Sorted}
 use Rattle.pairs.proofs.Order.{sorted_by}
 use Rattle.book.specs.Maps.{lookup}
 use Rattle.book.specs.Book.{words_from, book_of}
@@ -54,6 +57,12 @@ module _ {s : List ℕ} (id : ℕ) {r : Option ℕ} where
   keys_found {start} {count} b f e =
       e ∙ ap (λ (m : Option ℕ). (word_at parent_word s m)) f
       ∙ ap (λ (o : Option ℕ). o) (sym (ap (λ (t : List (ℕ × ℕ)). lookup id t) b.drawn ∙ drawn_last s count start id b.small b.fit))
+
+-- the words of the pairs hold the same pairs
+pub pairs_taken : (w : List ℕ) (m n : ℕ) → 2 * n ≤ m → pairs_of (take m w) n ≡ pairs_of w n
+unfolding pairs_of pair_at
+pairs_taken w m zero h = refl
+pairs_taken w m (suc n) h = rw (pairs_taken w m n (omega arith), get_or-take m w (2 * n) 0 (omega arith), get_or-take m w (2 * n + 1) 0 (omega arith))
 
 pub pairs_sorted : {s w : List ℕ} {n : ℕ} → ByPairs s w n → Sorted (pairs_of w n)
 pairs_sorted b = sorted_by _ _ b.all.all

@@ -83,7 +83,8 @@ fn parent_by_pairs(book: &[u8], work: &[u64], n: usize, near: usize, id: u32) ->
     requires { ByPairs book.now work.now n × (near ≤ n) }
     ensures { (result.word ≡ lookup id (parents_of (book_of book.now))) × (result.at ≤ n) }
 {
-    let pairs = SortedPairs::new(work, n);
+    // Only the words of the pairs: were the length of all words handed on, each lookup would have an argument more than registers.
+    let pairs = SortedPairs::new(&work[..2 * n], n);
     let found = drawn::find_snapshot(pairs, near, 1, id);
     WordAt {
         word: drawn::parent_at(book, found.place),
