@@ -25,6 +25,14 @@ word_first s bytes start i e = word_be s bytes (start + i * 8) e
 pub bucket_first : (t : Table) (s : List ℕ) → ((j : ℕ) → get_or s j 0 < 256) → (start i : ℕ) {w : ℕ} → t.first ≡ 64 → w ≡ be_at s (start + i * t.size) 8 → w ≡ first_at t s start i
 bucket_first t s bytes start i wide e = e ∙ sym (first_be t s bytes (start + i * t.size) 8 wide)
 
+-- among first fields that rise, entry r is the place of its own
+pub place_of : (t : Table) (s : List ℕ) (p n x r : ℕ) → Rising t s p n → r < n → first_at t s p r ≡ x → LowerBound (first_at t s p) n x r
+place_of t s p n x r up l e = record {
+  inside = omega arith;
+  below = λ k h. omega (arith, up.rises k r h l, e);
+  above = λ k h m. ⊎_elim (λ (q : r ≡ k). omega (arith, ap (first_at t s p) q, e)) (λ (q : r < k). omega (arith, up.rises r k q m, e)) (eq-or-lt_of_le h);
+}
+
 module _ {A : Type 0} (read : ℕ → A) (t : Table) (s : List ℕ) where
   -- entry k, as a pair of the map
   table_at : (n p k : ℕ) (d : ℕ × A) → k < n → get_or (table_from read t s n p) k d ≡ pair_at read t s (p + k * t.size)

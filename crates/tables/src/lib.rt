@@ -146,9 +146,9 @@ fn word_at(book: &[u8], start: usize, count: usize, i: usize, id: u32) -> Option
     None
 }
 
-// The second word that a table of two 32-bit words has for `id`, a snapshot's parent or a subvolume's snapshot, and the place of `id`. The search starts
-// from the place `near`, such as that of the id before in a chain; from the count, it is among all entries.
-pub fn find_word(book: &[u8], start: usize, count: usize, near: usize, id: u32) -> WordAt
+// The word that a table of two 32-bit words has for `id`, and the place of `id`, by a search from the place `near`. Not inlined, so that `find_word` is.
+#[inline(never)]
+fn search_word(book: &[u8], start: usize, count: usize, near: usize, id: u32) -> WordAt
     requires { Rising words_table book.now start count × (near ≤ count) }
     ensures { (result.word ≡ (lookup id (words_from book.now count start))) × (result.at ≤ count) }
 {
@@ -161,6 +161,21 @@ pub fn find_word(book: &[u8], start: usize, count: usize, near: usize, id: u32) 
     let at = search::lower_bound_near(&rows, near, id as u64);
     let word = word_at(book, start, count, at, id);
     WordAt { at, word }
+}
+
+// The second word that a table of two 32-bit words has for `id`, a snapshot's parent or a subvolume's snapshot, and the place of `id`. The search starts
+// from the place `near`, such as that of the id before in a chain; from the count, it is among all entries. Where the entry at `near` has the id, as
+// mostly on a walk with hints, that is read and nothing is called.
+#[inline(always)]
+pub fn find_word(book: &[u8], start: usize, count: usize, near: usize, id: u32) -> WordAt
+    requires { Rising words_table book.now start count × (near ≤ count) }
+    ensures { (result.word ≡ (lookup id (words_from book.now count start))) × (result.at ≤ count) }
+{
+    if near < count && bits::be32(book, start + near * 8) == id {
+        let word = Some(bits::be32(book, start + near * 8 + 4));
+        return WordAt { at: near, word };
+    }
+    search_word(book, start, count, near, id)
 }
 
 // How many entries of a gens table stand before the first whose bucket is `bucket` or above.
